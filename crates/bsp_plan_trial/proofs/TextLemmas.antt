@@ -6,16 +6,17 @@ use Rattle.std.specs.Ordering.{match_ordering}
 use Rattle.std.specs.Cmp.Lexicographic.{slice_cmp}
 use Rattle.std.specs.String.{string_cmp}
 use Rattle.std.specs.BTreeMap.{insert_entry}
+use Rattle.std.proofs.Math.Dec.{leb-zero}
 use Rattle.std.proofs.lemmas.Str.{IsUtf8-append, IsUtf8-from_ascii}
 use Rattle.std.proofs.lemmas.Bool.{and_parts}
 use Rattle.std.proofs.lemmas.List.{take_all, take_more}
-use Rattle.toml.specs.Data.{Data, Items, no_items, item, Members, no_members, member, integer, array, depth, items_depth, members_depth, push_item}
-use Rattle.toml.specs.Parse.{parse_document}
+use Rattle.toml.specs.Data.{Data, Items, no_items, item, Members, no_members, member, integer, string, array, table, depth, items_depth, members_depth, push_item}
 use Rattle.toml.specs.View.{items_view, view, members_view}
 use Rattle.toml.specs.declared.value.Value.{Value}
 use Rattle.toml.proofs.Views.{Entry, items_view-push}
 use Rattle.bsp_fields.specs.CivilDay.{CivilDay}
-use Rattle.bsp_fields.specs.Days.{day_text}
+use Rattle.bsp_fields.specs.Codes.{code_reading}
+use Rattle.bsp_fields.specs.Days.{day_text, text_reading}
 use Rattle.bsp_fields.specs.Decimal.{fixed_digits}
 use Rattle.bsp_calendar.specs.Letters.{are_letters, currency_reading}
 use Rattle.bsp_calendar.specs.History.{IsTextOf}
@@ -23,9 +24,11 @@ use Rattle.bsp_calendar.specs.PlanDocument.{PlanData, airline_of, currency_of, d
 use Rattle.bsp_calendar.specs.Published.{Published, opening}
 use Rattle.bsp_calendar.specs.Requests.{extended, once, same_airline, same_period, same_rate, same_tax, terms_within_bounds, with_entries}
 use Rattle.bsp_calendar.specs.SoundPlan.{IsSoundPlan}
+use Rattle.bsp_calendar.specs.declared.entries.CommissionTax.{CommissionTax}
+use Rattle.bsp_calendar.specs.declared.entries.Period.{Period}
 use Rattle.bsp_calendar.specs.declared.entries.PlanText.{PlanText}
+use Rattle.bsp_calendar.specs.declared.entries.Rate.{Rate}
 use Rattle.bsp_calendar.specs.declared.entries.Terms.{Terms}
-use Rattle.bsp_calendar.proofs.DocumentLemmas.{document-some}
 use Rattle.bsp_calendar.proofs.MadeLemmas.{airlines_once, made_again, periods_once, rates_once, taxes_once}
 use Rattle.bsp_calendar.proofs.OutcomeLemmas.{published}
 use Rattle.bsp_plan_trial.specs.Texts.{AreItemsOf, IsDocumentOf, IsValueOf, PutsList, PutsLists, PutsTerms, SaysPlan, entries_with, put, unbegun}
@@ -127,6 +130,25 @@ module _ {A : Type 0} (form : Data → Option A) where
   pub items_all : (xs : List A) (i : ℕ) (items : Items) → length xs ≤ i → AreItemsOf form (take i xs) items → AreItemsOf form xs items
   items_all xs i items past are = subst (λ (ys : List A). AreItemsOf form ys items) (take_all i xs past) are
 
+-- ---- entries
+
+pub rate_is : (r : Rate) (airline from : List ℕ) (ms : Members) → code_reading 3 airline ≡ Ok r.airline → text_reading from ≡ Ok r.from → nat_le r.hundredths 10_000 ≡ true
+    → ms ≡ put (codes "hundredths") (integer (pos r.hundredths)) (put (codes "from") (string from) (put (codes "airline") (string airline) no_members)) → IsValueOf rate_of 1 r (table ms)
+rate_is r airline from ms its_airline its_from within is =
+    let least : nat_le 0 r.hundredths ≡ true = leb-zero r.hundredths in
+    subst (λ (m : Members). IsValueOf rate_of 1 r (table m)) (sym is) (record { reads = rw (its_airline, its_from, least, within) refl; flat = omega arith })
+
+pub period_is : (q : Period) (code first last remit : List ℕ) (ms : Members) → code_reading 5 code ≡ Ok q.code → text_reading first ≡ Ok q.first → text_reading last ≡ Ok q.last → text_reading remit ≡ Ok q.remittance
+    → ms ≡ put (codes "remit") (string remit) (put (codes "last") (string last) (put (codes "first") (string first) (put (codes "code") (string code) no_members))) → IsValueOf period_of 1 q (table ms)
+period_is q code first last remit ms its_code its_first its_last its_remit is =
+    subst (λ (m : Members). IsValueOf period_of 1 q (table m)) (sym is) (record { reads = rw (its_code, its_first, its_last, its_remit) refl; flat = omega arith })
+
+pub tax_is : (t : CommissionTax) (from : List ℕ) (ms : Members) → text_reading from ≡ Ok t.from → nat_le t.hundredths 10_000 ≡ true → ms ≡ put (codes "hundredths") (integer (pos t.hundredths)) (put (codes "from") (string from) no_members)
+    → IsValueOf tax_of 1 t (table ms)
+tax_is t from ms its_from within is =
+    let least : nat_le 0 t.hundredths ≡ true = leb-zero t.hundredths in
+    subst (λ (m : Members). IsValueOf tax_of 1 t (table m)) (sym is) (record { reads = rw (its_from, least, within) refl; flat = omega arith })
+
 -- ---- documents
 
 -- the members that are put into a document are read as they were put
@@ -204,10 +226,6 @@ says_plan p terms ms text sound is document reads = record {
   says = rw (reads, document.says) refl;
   makes = λ entries same. makes p terms entries sound is same;
 }
-
--- a copy of a text that is parsed
-pub copy_reads : (copied shown text : List ℕ) (ms : Members) → IsUtf8 shown → shown ≡ text → copied ≡ shown → parse_document text ≡ Some ms → document_of copied ≡ Some ms
-copy_reads copied shown text ms utf8 same copy reads = document-some copied ms (subst IsUtf8 (sym copy) utf8) (ap parse_document (copy ∙ same) ∙ reads)
 
 pub all_true : {A : Type 0} (xs : List A) → list_all (λ (x : A). true) xs ≡ true
 all_true [] = refl

@@ -4,11 +4,10 @@ ghost use Rattle.std.specs.Prelude.{◌≡◌, IfOk, OnOk, pos};
 ghost use Rattle.std.specs.Str.{IsUtf8};
 ghost use Rattle.toml.specs.Data.{integer, string};
 ghost use Rattle.toml.specs.View.{table_view, view};
-ghost use Rattle.bsp_calendar.specs.PlanDocument.{airline_of, code_of, currency_of, day_of};
-ghost use Rattle.bsp_plan_trial.specs.Texts.{IsValueOf, put};
+ghost use Rattle.bsp_plan_trial.specs.Texts.{put};
 
-use bsp_calendar::{CommissionTax, Currency, Period, Rate};
-use bsp_fields::{AirlineCode, Day, PeriodCode};
+use bsp_calendar::{CommissionTax, Period, Rate};
+use bsp_fields::AirlineCode;
 use std::alloc::{AllocError, Global};
 use std::str;
 use toml::{Table, Value};
@@ -24,41 +23,6 @@ fn text_value(alloc: Global, text: &[u8]) -> Result<Value, AllocError>
     Value::string(alloc, text)
 }
 
-/// The code of a currency as a value.
-pub(crate) fn currency_value(alloc: Global, currency: Currency) -> Result<Value, AllocError>
-    ensures { IfOk result (λ value. IsValueOf currency_of 0 currency (view value)) }
-{
-    text_value(alloc, &currency.letters())
-}
-
-/// The code of an airline as a value.
-fn airline_value(alloc: Global, airline: AirlineCode) -> Result<Value, AllocError>
-    ensures { IfOk result (λ value. IsValueOf airline_of 0 airline (view value)) }
-{
-    text_value(alloc, &airline.digits())
-}
-
-/// The code of a period as a value.
-fn code_value(alloc: Global, code: PeriodCode) -> Result<Value, AllocError>
-    ensures { IfOk result (λ value. IsValueOf code_of 0 code (view value)) }
-{
-    text_value(alloc, &code.digits())
-}
-
-/// A day as a value.
-fn day_value(alloc: Global, day: Day) -> Result<Value, AllocError>
-    ensures { IfOk result (λ value. IsValueOf day_of 0 day (view value)) }
-{
-    text_value(alloc, &day.write_text())
-}
-
-/// A number as a value.
-pub(crate) fn number_value(number: u32) -> Value
-    ensures { view result ≡ integer (pos number) }
-{
-    Value::Integer(i64::from(number))
-}
-
 /// Puts a value into a table.
 pub(crate) fn put(
     alloc: Global,
@@ -70,6 +34,32 @@ pub(crate) fn put(
 {
     table.insert(String::from_str(alloc, key)?, value)?;
     Ok(())
+}
+
+/// Puts a text into a table.
+pub(crate) fn put_text(
+    alloc: Global,
+    table: &mut Table,
+    key: &str,
+    text: &[u8],
+) -> Result<(), AllocError>
+    requires { IsUtf8 text.now }
+    ensures { OnOk result (table_view table.new ≡ put key.now (string text.now) (table_view table.old)) }
+{
+    let value = text_value(alloc, text)?;
+    put(alloc, table, key, value)
+}
+
+/// Puts a number into a table.
+pub(crate) fn put_number(
+    alloc: Global,
+    table: &mut Table,
+    key: &str,
+    number: u32,
+) -> Result<(), AllocError>
+    ensures { OnOk result (table_view table.new ≡ put key.now (integer (pos number)) (table_view table.old)) }
+{
+    put(alloc, table, key, Value::Integer(i64::from(number)))
 }
 
 /// An entry of a list of a plan text.
@@ -99,7 +89,7 @@ impl Entry for AirlineCode {
     ghost is_within = { λ airline. true };
 
     fn value(&self, alloc: Global) -> Result<Value, AllocError> {
-        airline_value(alloc, *self)
+        text_value(alloc, &self.digits())
     }
 }
 
@@ -113,19 +103,9 @@ impl Entry for Rate {
 
     fn value(&self, alloc: Global) -> Result<Value, AllocError> {
         let mut table = Table::new(alloc);
-        put(
-            alloc,
-            &mut table,
-            "airline",
-            airline_value(alloc, self.airline)?,
-        )?;
-        put(alloc, &mut table, "from", day_value(alloc, self.from)?)?;
-        put(
-            alloc,
-            &mut table,
-            "hundredths",
-            number_value(u32::from(self.hundredths)),
-        )?;
+        put_text(alloc, &mut table, "airline", &self.airline.digits())?;
+        put_text(alloc, &mut table, "from", &self.from.write_text())?;
+        put_number(alloc, &mut table, "hundredths", self.hundredths as u32)?;
         Ok(Value::Table(table))
     }
 }
@@ -140,15 +120,10 @@ impl Entry for Period {
 
     fn value(&self, alloc: Global) -> Result<Value, AllocError> {
         let mut table = Table::new(alloc);
-        put(alloc, &mut table, "code", code_value(alloc, self.code)?)?;
-        put(alloc, &mut table, "first", day_value(alloc, self.first)?)?;
-        put(alloc, &mut table, "last", day_value(alloc, self.last)?)?;
-        put(
-            alloc,
-            &mut table,
-            "remit",
-            day_value(alloc, self.remittance)?,
-        )?;
+        put_text(alloc, &mut table, "code", &self.code.digits())?;
+        put_text(alloc, &mut table, "first", &self.first.write_text())?;
+        put_text(alloc, &mut table, "last", &self.last.write_text())?;
+        put_text(alloc, &mut table, "remit", &self.remittance.write_text())?;
         Ok(Value::Table(table))
     }
 }
@@ -163,13 +138,8 @@ impl Entry for CommissionTax {
 
     fn value(&self, alloc: Global) -> Result<Value, AllocError> {
         let mut table = Table::new(alloc);
-        put(alloc, &mut table, "from", day_value(alloc, self.from)?)?;
-        put(
-            alloc,
-            &mut table,
-            "hundredths",
-            number_value(u32::from(self.hundredths)),
-        )?;
+        put_text(alloc, &mut table, "from", &self.from.write_text())?;
+        put_number(alloc, &mut table, "hundredths", self.hundredths as u32)?;
         Ok(Value::Table(table))
     }
 }

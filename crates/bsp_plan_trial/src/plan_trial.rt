@@ -3,6 +3,7 @@
 ghost use Rattle.std.specs.Prelude.{◌≡◌, MatchResult, Some, option_map};
 ghost use Rattle.std.specs.List.{FoldsTo};
 ghost use Rattle.bsp_calendar.specs.Published.{Published, opening};
+ghost use Rattle.bsp_plan_trial.specs.Turns.{StopsAt};
 ghost use Rattle.bsp_plan_trial.specs.Plans.{IsOnDay, IsPublished, IsReady, IsRefused, IsRefusedBefore, IsReported, IsTried, IsStopped, code_of, texts_of};
 
 use crate::plan_lines::{counts_of, plan_lines};
@@ -11,7 +12,7 @@ use bsp_fields::{Change, Day};
 use std::alloc::Global;
 
 /// The first of some plan texts that is refused.
-#[derive(Clone, Copy, PartialEq, Eq, Drop)]
+#[derive(Clone, Copy, Drop)]
 pub struct PlanRefused {
     /// Its place among them, from 0.
     pub place: usize,
@@ -43,22 +44,21 @@ pub(crate) fn publish(alloc: Global, plan: &mut Plan, text: &[u8]) -> Result<Cha
     plan.extend(&read)
 }
 
-/// The plan of some texts, which are published in turn.
+/// Publishes some texts in turn.
 ///
 /// # Errors
 ///
 /// The first of them that is refused over the plan of those before it, or for which there was no memory.
-fn publish_all(alloc: Global, texts: &[Vec<u8>]) -> Result<Plan, PlanRefused>
-    ensures { MatchResult result (λ plan. FoldsTo IsPublished opening (texts_of texts.now) plan) (IsRefusedBefore (texts_of texts.now)) }
+fn publish_all(alloc: Global, plan: &mut Plan, texts: &[Vec<u8>]) -> Result<(), PlanRefused>
+    ensures { MatchResult result (λ _. FoldsTo IsPublished plan.old (texts_of texts.now) plan.new) (λ refused. StopsAt IsPublished (λ plan text. IsStopped plan text refused.fault) plan.old (texts_of texts.now) refused.place) }
 {
-    let mut plan = Plan::empty(alloc);
     for (place, text) in texts.iter().enumerate() {
-        match publish(alloc, &mut plan, text) {
+        match publish(alloc, plan, text) {
             Ok(_) => {}
             Err(fault) => return Err(PlanRefused { place, fault }),
         }
     }
-    Ok(plan)
+    Ok(())
 }
 
 /// Sets the business day of a plan that is at the opening day.
@@ -100,21 +100,10 @@ pub fn plan_before(
 ) -> Result<Plan, PlanRefused>
     ensures { MatchResult result (IsReady (texts_of published.now) day) (IsRefusedBefore (texts_of published.now)) }
 {
-    match publish_all(alloc, published) {
-        Ok(plan) => Ok(on_day(plan, day)),
+    let mut plan = Plan::empty(alloc);
+    match publish_all(alloc, &mut plan, published) {
+        Ok(_) => Ok(on_day(plan, day)),
         Err(refused) => Err(refused),
-    }
-}
-
-/// What a text publishes over a plan, as lines.
-fn report_on(alloc: Global, plan: &mut Plan, text: &[u8]) -> Result<Vec<u8>, PlanFault>
-    ensures { MatchResult result (λ lines. IsReported plan.old text.now lines.items) (IsStopped plan.old text.now) }
-{
-    let known = counts_of(plan);
-    let change = publish(alloc, plan, text)?;
-    match plan_lines(alloc, change, known, plan) {
-        Ok(lines) => Ok(lines),
-        Err(_) => Err(PlanFault::NoMemory),
     }
 }
 
@@ -127,9 +116,15 @@ fn report_after(
 ) -> Result<Vec<u8>, PlanRefused>
     ensures { MatchResult result (λ lines. IsReported plan.old text.now lines.items) (λ refused. IsStopped plan.old text.now refused.fault × (refused.place ≡ place)) }
 {
-    match report_on(alloc, plan, text) {
+    let known = counts_of(plan);
+    let change = match publish(alloc, plan, text) {
+        Ok(change) => change,
+        Err(fault) => return Err(PlanRefused { place, fault }),
+    };
+    let fault = PlanFault::NoMemory;
+    match plan_lines(alloc, change, known, plan) {
         Ok(lines) => Ok(lines),
-        Err(fault) => Err(PlanRefused { place, fault }),
+        Err(_) => Err(PlanRefused { place, fault }),
     }
 }
 

@@ -46,22 +46,16 @@ impl Words {
         self.is_short |= self.text.extend_from_slice(text).is_err();
     }
 
-    /// Adds minor units as money.
-    fn add_amount(&mut self, amount: i64) {
-        self.is_short |= push_money(&mut self.text, amount).is_err();
-    }
-
-    /// Adds a number in decimal digits.
-    fn add_number(&mut self, number: u64) {
-        let mut digits = Buffer::new();
-        self.add(digits.format(number).as_bytes());
-    }
-
     /// Adds a value as it is shown.
     fn add_value(&mut self, value: Shown) {
         match value {
-            Shown::Amount(amount) => self.add_amount(amount),
-            Shown::Number(number) => self.add_number(number),
+            Shown::Amount(amount) => {
+                self.is_short |= push_money(&mut self.text, amount).is_err();
+            }
+            Shown::Number(number) => {
+                let mut digits = Buffer::new();
+                self.add(digits.format(number).as_bytes());
+            }
             Shown::Day(day) => self.add(&day.write_text()),
             Shown::Airline(airline) => self.add(&airline.digits()),
             Shown::Period(period) => self.add(&period.digits()),

@@ -1,14 +1,12 @@
 //! The text of a plan: TOML that publishes its entries.
 
-ghost use Rattle.std.specs.Prelude.{◌≡◌, ◌≤◌, IfOk, MatchOption, None, OnOk, Some, true};
+ghost use Rattle.std.specs.Prelude.{◌≡◌, IfOk, MatchOption, None, OnOk, Some, true};
 ghost use Rattle.std.specs.List.{list_all};
-ghost use Rattle.toml.specs.Data.{members_depth};
 ghost use Rattle.toml.specs.View.{array_view, table_view};
 ghost use Rattle.bsp_calendar.specs.SoundPlan.{IsSoundPlan};
-ghost use Rattle.bsp_calendar.specs.PlanDocument.{document_of};
 ghost use Rattle.bsp_plan_trial.specs.Texts.{AreItemsOf, IsDocumentOf, PutsList, PutsLists, PutsTerms, SaysPlan};
 
-use crate::entry::{Entry, currency_value, number_value, put};
+use crate::entry::{Entry, put, put_number, put_text};
 use bsp_calendar::{Plan, Terms};
 use std::alloc::{AllocError, Global};
 use toml::value::Array;
@@ -44,12 +42,9 @@ fn put_list<E: Entry>(
 fn put_terms(alloc: Global, table: &mut Table, terms: &Terms) -> Result<(), AllocError>
     ensures { OnOk result (PutsTerms terms.now (table_view table.old) (table_view table.new)) }
 {
-    let currency = currency_value(alloc, terms.currency)?;
-    put(alloc, table, "currency", currency)?;
-    let review_days = number_value(terms.review_days as u32);
-    put(alloc, table, "review_days", review_days)?;
-    let documents_limit = number_value(terms.documents_limit);
-    put(alloc, table, "documents_limit", documents_limit)?;
+    put_text(alloc, table, "currency", &terms.currency.letters())?;
+    put_number(alloc, table, "review_days", terms.review_days as u32)?;
+    put_number(alloc, table, "documents_limit", terms.documents_limit)?;
     Ok(())
 }
 
@@ -74,19 +69,6 @@ fn document(alloc: Global, terms: &Terms, plan: &Plan) -> Result<Table, AllocErr
     Ok(table)
 }
 
-/// The text of a document that has no dates and is not deep.
-fn document_text(alloc: Global, document: &Table) -> Result<Vec<u8>, AllocError>
-    ensures { members_depth (table_view document.now) ≤ 2 → IfOk result (λ text. document_of text.items ≡ Some (table_view document.now)) }
-{
-    match toml::table_to_string(alloc, document) {
-        Ok(text) => {
-            let bytes = Vec::from_slice(alloc, text.as_str().as_bytes())?;
-            Ok(bytes)
-        }
-        Err(_) => Err(AllocError),
-    }
-}
-
 /// A plan text with the terms and the entries of a plan, in their order; none before terms are published. Published on the
 /// opening day, it makes a plan with these terms and entries.
 ///
@@ -101,6 +83,9 @@ pub fn plan_text(alloc: Global, plan: &Plan) -> Result<Option<Vec<u8>>, AllocErr
     };
     plan.meets_rules();
     let document = document(alloc, &terms, plan)?;
-    let text = document_text(alloc, &document)?;
-    Ok(Some(text))
+    // It has no dates and is not deep, so only memory can be short.
+    match toml::table_to_string(alloc, &document) {
+        Ok(text) => Ok(Some(text.into_bytes())),
+        Err(_) => Err(AllocError),
+    }
 }
