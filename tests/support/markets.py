@@ -60,17 +60,18 @@ class Market:
             token = self.random.choice([None, "0" * 16, token[:-1], f"{token[:-1]}_", self.agent_tokens.get(AGENTS[0])])
         wanted, found = reply(lambda: self.second.answer(path, token, answer)), self.first.ask(method, path, token, body)
         self.count(path, wanted[2])
-        self.expect(wire.curl(f"{method} {path}", body or b"", token), wanted, found)
+        asked = f"{method} {path}", body or b"", token
+        self.expect(lambda: wire.curl(*asked), wanted, found)
+        if method == "POST":
+            self.posted.append(asked)
 
-    def expect(self, asked, wanted, found):
+    def expect(self, what, wanted, found):
         """Fails with all that was sent before, where the two differ. What is shown changes nothing, and is left out."""
         if wanted != found:
-            sent = "\n".join([*self.posted, asked])
+            sent = "\n".join([*(wire.curl(*it) for it in self.posted), what()])
             raise AssertionError(
                 f"the second office answers something else after\n{sent}\n  wanted {wanted!r}\n  found  {found!r}"
             )
-        if asked.startswith("curl -X POST"):
-            self.posted.append(asked)
 
     def count(self, path, body):
         """Counts an answer: verdicts by their words, refusals by their codes, and what is shown by its path."""
@@ -530,14 +531,14 @@ class Trial(Market):
         statement = self.statement(transactions, code)
         status, _, body = self.first.ask("POST", f"/agents/{AGENTS[0]}/ret", self.agent_tokens[AGENTS[0]], text)
         self.second.report(AGENTS[0], transactions)
-        self.posted.append(wire.curl(f"POST /agents/{AGENTS[0]}/ret", text, self.agent_tokens[AGENTS[0]]))
+        self.posted.append((f"POST /agents/{AGENTS[0]}/ret", text, self.agent_tokens[AGENTS[0]]))
         results = json.loads(body)["results"]
         lines = "".join(f"{it['n']:06} {it['verdict']}{' ' + it['period'] if 'period' in it else ''}\n" for it in results)
         units = self.owed() - before
         net = f"net {money(units)}\n"
-        self.expect(f"judge {' '.join(self.words)}", (200, (int(" E" in lines), lines + net)), (status, said))
+        self.expect(lambda: f"judge {' '.join(self.words)}", (200, (int(" E" in lines), lines + net)), (status, said))
         wanted = (int(" E" in lines), lines + net + statement) if statement else (1, "S01\n")
-        self.expect(f"judge {' '.join(self.words)} --statement {code}", wanted, stated)
+        self.expect(lambda: f"judge {' '.join(self.words)} --statement {code}", wanted, stated)
         self.counts["judged"] += 1
         self.words += ["--file", self.file(text)]
 
@@ -554,7 +555,7 @@ class Trial(Market):
             return
         ended = program.run("judge", *words, self.file(ret_text([])))
         wanted = 1, json.loads(body)["code"] + "\n"
-        self.expect(f"judge {' '.join(words)}", wanted, (ended.status, ended.out.decode()))
+        self.expect(lambda: f"judge {' '.join(words)}", wanted, (ended.status, ended.out.decode()))
         self.counts["judge stopped"] += 1
 
     def open(self, callers=1):

@@ -276,7 +276,7 @@ class Second:
         if not is_agent(it.agent) or it.agent not in self.agents or reporter not in (None, it.agent):
             return "E02", None
         own = self.of_agent(it.agent)
-        same = [item for item in own if item.of == it]
+        same = [item for item in own if item.of.number == it.number and item.of == it]
         if same:
             return "held", same[0].period
         target = self.plan.target(it.issued)
@@ -317,7 +317,8 @@ class Second:
     @staticmethod
     def ticket(own, airline, number):
         """The accepted TKTT of this airline and number, if there is one."""
-        found = [item for item in own if (item.of.code, item.of.airline, item.of.number) == ("TKTT", airline, number)]
+        of_number = (item for item in own if item.of.number == number)
+        found = [item for item in of_number if (item.of.code, item.of.airline) == ("TKTT", airline)]
         return found[0] if found else None
 
     def lacks_document(self, own, it):
@@ -328,7 +329,8 @@ class Second:
     @staticmethod
     def related(own, number):
         """The living TKTT and RFND that relate to the number."""
-        return [item for item in own if item.lives and any(number == other for _, other, _ in item.of.related)]
+        relating = (item for item in own if item.of.related and item.lives)
+        return [item for item in relating if any(number == other for _, other, _ in item.of.related)]
 
     def is_used_up(self, own, it):
         if it.code == "CANX":
