@@ -78,12 +78,11 @@ def ret_pieces(transactions):
         )
     ]
     yield header(2).encode()
-    for begun in range(1, transactions + 1, 10_000):
-        texts = []
-        for it in range(begun, min(begun + 10_000, transactions + 1)):
-            n = f"{it:06}"
-            texts += [f"{kind}{n}{rest}" for kind, rest in zip("2335888", rests)]
-        yield "".join(texts).encode()
+    # ten thousand transactions are as those before them, but for the first two digits of their numbers
+    texts = "".join(f"{kind}@@{it:04}{rest}" for it in range(10_000) for kind, rest in zip("2335888", rests)).encode()
+    for begun in range(0, transactions + 1, 10_000):
+        first, end = max(begun, 1) - begun, min(begun + 10_000, transactions + 1) - begun
+        yield texts[7 * RECORD * first : 7 * RECORD * end].replace(b"@@", b"%02d" % (begun // 10_000))
     yield trailer(7 * transactions + 2, transactions, 23_500 * transactions).encode()
 
 
