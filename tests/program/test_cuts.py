@@ -1,7 +1,5 @@
 """`check` and `hotcheck` report on RET and HOT files of samples/ that are cut after each of their bytes. A file whose last LF alone
 is cut is whole."""
-import concurrent.futures
-
 import pytest
 
 from support import program
@@ -50,7 +48,5 @@ def test_a_file_is_cut_after_each_byte(path):
     expect("whole records", 0, len(text) % RECORD)
     whole = reported(command, text)
     expect("the whole file", 0, whole[0])
-    with concurrent.futures.ThreadPoolExecutor(4) as pool:
-        found = pool.map(lambda it: reported(command, text[:it]), range(len(text)))
-        for length, it in enumerate(found):
-            expect(f"{length} bytes", whole if is_whole(text, length) else report(length), it)
+    for length in range(len(text)):
+        expect(f"{length} bytes", whole if is_whole(text, length) else report(length), reported(command, text[:length]))
