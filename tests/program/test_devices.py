@@ -271,5 +271,5 @@ def test_the_office_ends_after_so_many_connections(count):
     it = Office("--connections", count, seconds=30)
     for _ in range(int(count)):
         expect("a peer that sends nothing", b"", received(peer(it.port, b"")))
-    served = f"{count} connection{'s' * (int(count) != 1)} served"
+    served = f"{int(count)} connection{'s' * (int(count) != 1)} served"
     expect("the end", (0, f"bsp_office: {served}\n"), it.ended())
