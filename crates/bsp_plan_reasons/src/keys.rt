@@ -143,7 +143,12 @@ impl Form {
 
 /// Whether a text has digits alone.
 pub(crate) fn are_digits(text: &[u8]) -> bool {
-    text.iter().all(|byte| byte.is_ascii_digit())
+    for byte in text {
+        if !byte.is_ascii_digit() {
+            return false;
+        }
+    }
+    true
 }
 
 /// Whether a key is one of these.

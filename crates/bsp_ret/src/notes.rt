@@ -132,7 +132,6 @@ impl Notes {
     }
 
     /// Notes the next line of `bytes`, which says `next`, and behind whose end `after` follows.
-    #[inline(always)]
     pub(crate) fn add(
         &mut self,
         closed: &mut Vec<Place>,

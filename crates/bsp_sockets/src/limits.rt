@@ -36,7 +36,10 @@ pub(crate) fn end_of(since: Instant, limit: Option<Duration>) -> Option<Instant>
     ensures endless { limit ≡ None → result ≡ None }
     ensures limited { (most : Duration) → limit ≡ Some most → IfSome result (λ end. instant_nanos end ≡ instant_nanos since + as_nanos most) }
 {
-    since.checked_add(limit?)
+    match limit {
+        Some(most) => since.checked_add(most),
+        None => None,
+    }
 }
 
 /// The earlier of two times; none: never.

@@ -86,7 +86,9 @@ fn begun_after(before: Option<Begun>, message: Option<usize>, now: Instant) -> O
     ensures first { (count : ℕ) → message ≡ Some count → before ≡ None → result ≡ Some (record { before = count; since = now }) }
     ensures next { (count : ℕ) (other : Begun) → message ≡ Some count → before ≡ Some other → other.before ≢ count → result ≡ Some (record { before = count; since = now }) }
 {
-    let count = message?;
+    let Some(count) = message else {
+        return None;
+    };
     match before {
         Some(begun) if begun.before == count => before,
         _ => Some(Begun {
@@ -145,16 +147,7 @@ fn unread_after(before: Option<Unread>, waits: bool, sent: usize, now: Instant) 
             stage: Stage::Fresh,
         });
     };
-    Some(unread_on(old, sent, now))
-}
-
-/// Output that waits again after a turn.
-fn unread_on(old: Unread, sent: usize, now: Instant) -> Unread
-    ensures filled { old.stage ≡ Stage.Filling → result ≡ record { taken = 0; since = old.since; spans = old.spans; stage = Stage.Full } }
-    ensures less { old.stage ≢ Stage.Filling → old.taken + sent < PIECE → result ≡ record { taken = old.taken + sent; since = old.since; spans = old.spans; stage = old.stage } }
-    ensures piece { old.stage ≢ Stage.Filling → PIECE ≤ old.taken + sent → result ≡ record { taken = 0; since = now; spans = 0; stage = old.stage } }
-{
-    match old.stage {
+    Some(match old.stage {
         Stage::Filling => Unread {
             taken: 0,
             stage: Stage::Full,
@@ -170,7 +163,7 @@ fn unread_on(old: Unread, sent: usize, now: Instant) -> Unread
             spans: 0,
             stage: old.stage,
         },
-    }
+    })
 }
 
 /// Whether the output that waits after a turn in which nothing was written is that before it, whatever the time.
@@ -179,17 +172,7 @@ fn is_still(before: &Option<Unread>, waits: bool) -> bool
 {
     match before {
         None => !waits,
-        Some(unread) => waits && unread.taken < PIECE && !is_filling(unread.stage),
-    }
-}
-
-/// Whether the bytes go to the system's own buffer, by the write that fills it.
-fn is_filling(stage: Stage) -> bool
-    ensures { result ≡ false → stage ≢ Stage.Filling }
-{
-    match stage {
-        Stage::Filling => true,
-        Stage::Fresh | Stage::Full => false,
+        Some(unread) => waits && unread.taken < PIECE && !matches!(unread.stage, Stage::Filling),
     }
 }
 
@@ -307,13 +290,14 @@ impl Phase {
         ensures span { (old : Unread) → message_of self ≡ None → output_of self ≡ Some old → old.spans < SPANS → (next : Unread) × (result ≡ Some (Busy None (Some next))) × (next.taken ≡ old.taken) × (next.spans ≡ old.spans + 1) }
         ensures over { (old : Unread) → output_of self ≡ Some old → SPANS ≤ old.spans → result ≡ None }
     {
-        let unread = self.output()?;
+        let Some(unread) = self.output() else {
+            return None;
+        };
+        let output = once_more(unread, now);
         match self.message() {
             Some(begun) if is_over(begun.since, limit, now) => None,
-            message => Some(Phase::Busy {
-                message,
-                output: Some(once_more(unread, now)?),
-            }),
+            message if output.is_some() => Some(Phase::Busy { message, output }),
+            _ => None,
         }
     }
 
@@ -325,7 +309,11 @@ impl Phase {
     {
         match self {
             Phase::Resting(since) => Some(since),
-            Phase::Busy { message, .. } => message.map(|it| it.since),
+            Phase::Busy {
+                message: Some(begun),
+                ..
+            } => Some(begun.since),
+            Phase::Busy { message: None, .. } => None,
             Phase::Leaving(since) => Some(since),
         }
     }
@@ -334,7 +322,10 @@ impl Phase {
     pub(crate) fn unread_since(self) -> Option<Instant>
         ensures { (unread : Unread) → output_of self ≡ Some unread → result ≡ Some unread.since }
     {
-        self.output().map(|it| it.since)
+        match self.output() {
+            Some(unread) => Some(unread.since),
+            None => None,
+        }
     }
 
     /// Whether it has been busy since the same times as in another phase.

@@ -24,18 +24,18 @@ fn first_over(
     limit: Option<Duration>,
     now: Instant,
 ) -> Option<u64> {
-    let (since, number) = *times.first()?;
-    if is_over(since, limit, now) {
-        Some(number)
-    } else {
-        None
+    match times.first() {
+        Some(&(since, number)) if is_over(since, limit, now) => Some(number),
+        _ => None,
     }
 }
 
 /// When the time of the first of these connections is over.
 fn first_end(times: &BTreeSet<(Instant, u64)>, limit: Option<Duration>) -> Option<Instant> {
-    let (since, _) = *times.first()?;
-    end_of(since, limit)
+    match times.first() {
+        Some(&(since, _)) => end_of(since, limit),
+        None => None,
+    }
 }
 
 impl Times {

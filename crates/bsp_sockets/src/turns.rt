@@ -60,7 +60,10 @@ impl Turns {
         ensures round { self.new.left ≡ self.old.left - 1 }
         ensures over { IfNone result (self.new.queue.items ≡ self.old.queue.items) }
     {
-        self.left = self.left.checked_sub(1)?;
+        if self.left == 0 {
+            return None;
+        }
+        self.left -= 1;
         self.queue.pop_front()
     }
 
