@@ -143,12 +143,7 @@ impl Form {
 
 /// Whether a text has digits alone.
 pub(crate) fn are_digits(text: &[u8]) -> bool {
-    for byte in text {
-        if !byte.is_ascii_digit() {
-            return false;
-        }
-    }
-    true
+    text.iter().all(|byte| byte.is_ascii_digit())
 }
 
 /// Whether a key is one of these.

@@ -6,19 +6,26 @@ use bsp_plan_trial::{Shown, Words};
 
 /// Says what is wrong with the days of a period, and answers whether anything is.
 fn say_own_days(words: &mut Words, period: &Period) -> bool {
+    let (first, last, remit) = (period.first, period.last, period.remittance);
     let code = Shown::Period(period.code);
-    let last = Shown::Day(period.last);
-    if period.first.number() > period.last.number() {
+    if first.number() > last.number() {
         let text = "period {} begins {}, after its last day {}";
-        words.say(text, &[code, Shown::Day(period.first), last]);
+        words.say(text, &[code, Shown::Day(first), Shown::Day(last)]);
         return true;
     }
-    if period.last.number() < period.remittance.number() {
+    if last.number() < remit.number() {
         return false;
     }
     let text = "period {} ends {}, and its remit is {}: it has to be after the last day";
-    words.say(text, &[code, last, Shown::Day(period.remittance)]);
+    words.say(text, &[code, Shown::Day(last), Shown::Day(remit)]);
     true
+}
+
+/// Says on which day a period has to begin, after one that ends on this day.
+fn say_next(words: &mut Words, last: Day) {
+    if let Ok(next) = Day::of_number(last.plus(1)) {
+        words.say(": it has to begin {}", &[Shown::Day(next)]);
+    }
 }
 
 /// Says that a period does not begin on the day after the one before it, and answers whether that is so.
@@ -29,18 +36,13 @@ fn say_gap(words: &mut Words, before: Option<Period>, period: &Period) -> bool {
     if before.last.number() + 1 == period.first.number() {
         return false;
     }
+    let (code, first) = (Shown::Period(period.code), Shown::Day(period.first));
+    let (other, last) = (Shown::Period(before.code), Shown::Day(before.last));
     words.say(
         "period {} begins {}, and period {} before it ends {}",
-        &[
-            Shown::Period(period.code),
-            Shown::Day(period.first),
-            Shown::Period(before.code),
-            Shown::Day(before.last),
-        ],
+        &[code, first, other, last],
     );
-    if let Ok(next) = Day::of_number(before.last.plus(1)) {
-        words.say(": it has to begin {}", &[Shown::Day(next)]);
-    }
+    say_next(words, before.last);
     true
 }
 
@@ -63,19 +65,27 @@ fn say_begun(words: &mut Words, from: Day, day: Day) {
     words.say(text, &[Shown::Day(from), Shown::Day(day)]);
 }
 
+/// Says which new tax begins too early.
+fn say_late_tax(words: &mut Words, plan: &Plan, read: &PlanText) {
+    let day = plan.day();
+    for tax in &read.commission_taxes {
+        if tax.from.number() <= day.number() && !plan.commission_taxes().contains(tax) {
+            words.add(b"a commission_tax");
+            say_begun(words, tax.from, day);
+            return;
+        }
+    }
+}
+
 /// Says which new rate or tax begins too early. No entry of the text differs from a published one.
 pub(crate) fn say_late(words: &mut Words, plan: &Plan, read: &PlanText) {
     let day = plan.day();
     for rate in &read.rates {
         if rate.from.number() <= day.number() && !plan.rates().contains(rate) {
             words.say("a rate of {}", &[Shown::Airline(rate.airline)]);
-            return say_begun(words, rate.from, day);
+            say_begun(words, rate.from, day);
+            return;
         }
     }
-    for tax in &read.commission_taxes {
-        if tax.from.number() <= day.number() && !plan.commission_taxes().contains(tax) {
-            words.add(b"a commission_tax");
-            return say_begun(words, tax.from, day);
-        }
-    }
+    say_late_tax(words, plan, read);
 }

@@ -21,10 +21,11 @@ fn coding_fault(text: &[u8]) -> Option<&'static str> {
 
 /// The digits of a number that has zeros in front, without these.
 fn without_zeros(value: &str) -> Option<&str> {
-    if value.len() < 2 || !value.starts_with('0') || !are_digits(value.as_bytes()) {
+    let digits = value.strip_prefix('0')?;
+    if digits.is_empty() || !are_digits(digits.as_bytes()) {
         return None;
     }
-    match value.trim_start_matches('0') {
+    match digits.trim_start_matches('0') {
         "" => Some("0"),
         rest => Some(rest),
     }

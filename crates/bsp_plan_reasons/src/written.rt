@@ -22,11 +22,11 @@ fn before(text: &str, end: char) -> &str {
 
 /// The name in the brackets of a line.
 pub(crate) fn header(line: &str) -> Option<&str> {
-    let Some(rest) = line.trim_ascii().strip_prefix('[') else {
-        return None;
-    };
-    let name = rest.strip_prefix('[').unwrap_or(rest);
-    Some(before(name, ']'))
+    let rest = line.trim_ascii().strip_prefix('[')?;
+    match rest.strip_prefix('[') {
+        Some(rest) => Some(before(rest, ']')),
+        None => Some(before(rest, ']')),
+    }
 }
 
 /// A value without the comment that follows it.
@@ -74,13 +74,11 @@ pub(crate) fn find_written<'t>(text: &'t str, place: Place<'_>, name: &str) -> O
 /// The line of the first table that has a key, where a line of its own has it.
 pub(crate) fn below_a_table(text: &str, name: &str) -> Option<usize> {
     let mut is_below = false;
-    let mut number = 0_usize;
-    for line in text.split('\n') {
-        number = number.saturating_add(1);
+    for (index, line) in text.split('\n').enumerate() {
         if header(line).is_some() {
             is_below = true;
         } else if is_below && key(line) == name {
-            return Some(number);
+            return Some(index.saturating_add(1));
         }
     }
     None

@@ -163,6 +163,7 @@ fn later_record(at: Standing, line: &[u8]) -> Result<Record, FaultCode>
 
 /// What a record says that is no fault after records in this state that have not ended, or the
 /// first row of the fault table that applies to it.
+#[inline(always)]
 pub(crate) fn judge_record(at: Standing, line: &[u8]) -> Result<Record, FaultCode>
     requires wide { is_wide line.now ≡ true }
     requires long { length line.now ≡ 136 }
@@ -206,6 +207,7 @@ impl Standing {
     /// # Errors
     ///
     /// The first row of the fault table that applies to it. The state is as it was.
+    #[inline(always)]
     pub fn step_record(&mut self, line: &[u8]) -> Result<Record, FaultCode>
         requires fits { FitsIn self.old (2 ^ 63 - 1) }
         requires wide { is_wide line.now ≡ true }

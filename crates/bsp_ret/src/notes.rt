@@ -132,6 +132,7 @@ impl Notes {
     }
 
     /// Notes the next line of `bytes`, which says `next`, and behind whose end `after` follows.
+    #[inline(always)]
     pub(crate) fn add(
         &mut self,
         closed: &mut Vec<Place>,

@@ -203,7 +203,7 @@ impl Connections {
             enter(&mut self.times, watched, number, phase);
             return Happened::Ready(number);
         }
-        self.was_resting = matches!(watched.phase, Phase::Resting(_));
+        self.was_resting = watched.is_resting();
         enter(&mut self.times, watched, number, Phase::OVER);
         Happened::Late(number)
     }

@@ -36,10 +36,7 @@ pub(crate) fn end_of(since: Instant, limit: Option<Duration>) -> Option<Instant>
     ensures endless { limit ≡ None → result ≡ None }
     ensures limited { (most : Duration) → limit ≡ Some most → IfSome result (λ end. instant_nanos end ≡ instant_nanos since + as_nanos most) }
 {
-    match limit {
-        Some(most) => since.checked_add(most),
-        None => None,
-    }
+    since.checked_add(limit?)
 }
 
 /// The earlier of two times; none: never.

@@ -86,9 +86,7 @@ fn begun_after(before: Option<Begun>, message: Option<usize>, now: Instant) -> O
     ensures first { (count : ℕ) → message ≡ Some count → before ≡ None → result ≡ Some (record { before = count; since = now }) }
     ensures next { (count : ℕ) (other : Begun) → message ≡ Some count → before ≡ Some other → other.before ≢ count → result ≡ Some (record { before = count; since = now }) }
 {
-    let Some(count) = message else {
-        return None;
-    };
+    let count = message?;
     match before {
         Some(begun) if begun.before == count => before,
         _ => Some(Begun {
@@ -147,7 +145,16 @@ fn unread_after(before: Option<Unread>, waits: bool, sent: usize, now: Instant) 
             stage: Stage::Fresh,
         });
     };
-    Some(match old.stage {
+    Some(unread_on(old, sent, now))
+}
+
+/// Output that waits again after a turn.
+fn unread_on(old: Unread, sent: usize, now: Instant) -> Unread
+    ensures filled { old.stage ≡ Stage.Filling → result ≡ record { taken = 0; since = old.since; spans = old.spans; stage = Stage.Full } }
+    ensures less { old.stage ≢ Stage.Filling → old.taken + sent < PIECE → result ≡ record { taken = old.taken + sent; since = old.since; spans = old.spans; stage = old.stage } }
+    ensures piece { old.stage ≢ Stage.Filling → PIECE ≤ old.taken + sent → result ≡ record { taken = 0; since = now; spans = 0; stage = old.stage } }
+{
+    match old.stage {
         Stage::Filling => Unread {
             taken: 0,
             stage: Stage::Full,
@@ -163,7 +170,7 @@ fn unread_after(before: Option<Unread>, waits: bool, sent: usize, now: Instant) 
             spans: 0,
             stage: old.stage,
         },
-    })
+    }
 }
 
 /// Whether the output that waits after a turn in which nothing was written is that before it, whatever the time.
@@ -172,7 +179,17 @@ fn is_still(before: &Option<Unread>, waits: bool) -> bool
 {
     match before {
         None => !waits,
-        Some(unread) => waits && unread.taken < PIECE && !matches!(unread.stage, Stage::Filling),
+        Some(unread) => waits && unread.taken < PIECE && !is_filling(unread.stage),
+    }
+}
+
+/// Whether the bytes go to the system's own buffer, by the write that fills it.
+fn is_filling(stage: Stage) -> bool
+    ensures { result ≡ false → stage ≢ Stage.Filling }
+{
+    match stage {
+        Stage::Filling => true,
+        Stage::Fresh | Stage::Full => false,
     }
 }
 
@@ -290,14 +307,13 @@ impl Phase {
         ensures span { (old : Unread) → message_of self ≡ None → output_of self ≡ Some old → old.spans < SPANS → (next : Unread) × (result ≡ Some (Busy None (Some next))) × (next.taken ≡ old.taken) × (next.spans ≡ old.spans + 1) }
         ensures over { (old : Unread) → output_of self ≡ Some old → SPANS ≤ old.spans → result ≡ None }
     {
-        let Some(unread) = self.output() else {
-            return None;
-        };
-        let output = once_more(unread, now);
+        let unread = self.output()?;
         match self.message() {
             Some(begun) if is_over(begun.since, limit, now) => None,
-            message if output.is_some() => Some(Phase::Busy { message, output }),
-            _ => None,
+            message => Some(Phase::Busy {
+                message,
+                output: Some(once_more(unread, now)?),
+            }),
         }
     }
 
@@ -309,11 +325,7 @@ impl Phase {
     {
         match self {
             Phase::Resting(since) => Some(since),
-            Phase::Busy {
-                message: Some(begun),
-                ..
-            } => Some(begun.since),
-            Phase::Busy { message: None, .. } => None,
+            Phase::Busy { message, .. } => message.map(|it| it.since),
             Phase::Leaving(since) => Some(since),
         }
     }
@@ -322,10 +334,7 @@ impl Phase {
     pub(crate) fn unread_since(self) -> Option<Instant>
         ensures { (unread : Unread) → output_of self ≡ Some unread → result ≡ Some unread.since }
     {
-        match self.output() {
-            Some(unread) => Some(unread.since),
-            None => None,
-        }
+        self.output().map(|it| it.since)
     }
 
     /// Whether it has been busy since the same times as in another phase.

@@ -98,10 +98,10 @@ impl<'c, C: Clock + Net> Sockets<'c, C> {
         let at_once = settings.at_once.clamp(1, MOST);
         let time = Time::new(host)?;
         let waited = time.last;
-        let poll = Poll::new(host)?;
-        let door = Door::new(listener, poll.registry())?;
         // room for each connection and the listener, so that no time is over of one that is ready and not reported
         let events = Events::with_capacity(alloc, at_once + 1)?;
+        let poll = Poll::new(host)?;
+        let door = Door::new(listener, poll.registry())?;
         Ok(Sockets {
             time,
             at_once,
@@ -217,10 +217,8 @@ impl<C: Clock> Sockets<'_, C> {
         if is_due || !self.connections.turns.is_empty() {
             return Some(Duration::ZERO);
         }
-        match earlier(self.connections.times.end(self.limits), self.next_arrival()) {
-            Some(end) => Some(end.duration_since(self.time.last)),
-            None => None,
-        }
+        let end = earlier(self.connections.times.end(self.limits), self.next_arrival())?;
+        Some(end.duration_since(self.time.last))
     }
 
     /// Notes what the system reported.

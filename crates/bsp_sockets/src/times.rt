@@ -24,18 +24,18 @@ fn first_over(
     limit: Option<Duration>,
     now: Instant,
 ) -> Option<u64> {
-    match times.first() {
-        Some(&(since, number)) if is_over(since, limit, now) => Some(number),
-        _ => None,
+    let (since, number) = *times.first()?;
+    if is_over(since, limit, now) {
+        Some(number)
+    } else {
+        None
     }
 }
 
 /// When the time of the first of these connections is over.
 fn first_end(times: &BTreeSet<(Instant, u64)>, limit: Option<Duration>) -> Option<Instant> {
-    match times.first() {
-        Some(&(since, _)) => end_of(since, limit),
-        None => None,
-    }
+    let (since, _) = *times.first()?;
+    end_of(since, limit)
 }
 
 impl Times {

@@ -60,10 +60,7 @@ impl Turns {
         ensures round { self.new.left ≡ self.old.left - 1 }
         ensures over { IfNone result (self.new.queue.items ≡ self.old.queue.items) }
     {
-        if self.left == 0 {
-            return None;
-        }
-        self.left -= 1;
+        self.left = self.left.checked_sub(1)?;
         self.queue.pop_front()
     }
 

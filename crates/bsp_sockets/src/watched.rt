@@ -76,6 +76,15 @@ impl Watched {
         }
     }
 
+    /// Whether it is between messages.
+    pub(crate) fn is_resting(&self) -> bool {
+        match self.phase {
+            Phase::Resting(_) => true,
+            Phase::Leaving(_) => false,
+            Phase::Busy { .. } => false,
+        }
+    }
+
     /// Has the system report when it can be read, the first time.
     pub(crate) fn register(&mut self, registry: &Registry, number: u64) -> bool {
         registry

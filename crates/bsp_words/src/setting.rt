@@ -186,12 +186,9 @@ pub(crate) fn judge_given<'a, S: AsStr>(
 
 /// Whether a text that is to be a range is none.
 fn has_other_range(matches: &ArgMatches<'_>) -> bool {
-    for text in values_of(matches, "stock") {
-        if range_of(text).is_none() {
-            return true;
-        }
-    }
-    false
+    values_of(matches, "stock")
+        .iter()
+        .any(|text| range_of(text).is_none())
 }
 
 /// Which value of `judge` is out of its form.

@@ -15,7 +15,7 @@ returns-in-Err-clause-stop c =
 pub add-requires-clause-places : goal.add-requires-clause-places
 add-requires-clause-places c =
     let l = c.loop-line in
-    places_with _ _ l.now c.step.new.self l.closed.items c.args.bytes.now (open_before l.now.at c.in-Some.line.now c.in-Ok.ensures.row) l.invariant.noted.places
+    places_with _ _ l.now c.step.new.at l.closed.items c.args.bytes.now (open_before l.now.at c.in-Some.line.now c.in-Ok.ensures.row) l.invariant.noted.places
 
 pub add-requires-clause-small : goal.add-requires-clause-small
 add-requires-clause-small c =
