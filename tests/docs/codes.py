@@ -1,5 +1,5 @@
 #!/usr/bin/env python3
-"""Compares docs/CODES.md with the table of crates/bsp_codes, and that with the codes that the sources write.
+"""Compares docs/CODES.md with the table of crates/bsp_fault_texts, and that with the codes that the sources write.
 
 The table has an entry for each code: the status of a reply, what it means, what to do and, of some, its causes. A row of
 docs/CODES.md is made of each, and a section `### E07 by its causes` of causes. A code that another source writes is a
@@ -36,7 +36,7 @@ def texts(part):
 def table():
     """The table: of each code the status, the meaning, the remedy, and the causes."""
     found = {}
-    for path in sorted((TOP / "crates/bsp_codes/src").glob("*.rt")):
+    for path in sorted((TOP / "crates/bsp_fault_texts/src").glob("*.rt")):
         for entry in ENTRY.findall(path.read_text(encoding="utf-8")):
             code, status, meaning, remedy, *causes = texts(entry)
             found[code] = (status, meaning, remedy, causes)
@@ -76,9 +76,10 @@ def written():
     """The codes in the texts of the other sources, each with the first file that has it."""
     found = {}
     for path in sorted(TOP.glob("crates/*/src/**/*.rt")):
-        if "tests" in path.parts or path.stem == "tests" or "bsp_codes" in path.parts:
+        source = path.read_text(encoding="utf-8")
+        if "tests" in path.parts or path.stem == "tests" or ENTRY.search(source):
             continue
-        text = COMMENT.sub("", path.read_text(encoding="utf-8"))
+        text = COMMENT.sub("", source)
         for code in CODE.findall(" ".join(TEXT.findall(text))):
             found.setdefault(code, path.relative_to(TOP))
     return found

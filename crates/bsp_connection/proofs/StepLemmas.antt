@@ -12,7 +12,7 @@ use Rattle.bsp_heads.proofs.BodyLemmas.{body_limited}
 use Rattle.bsp_heads.proofs.ScanLemmas.{head_len-more, head_len-le}
 use Rattle.bsp_heads.specs.Fields.{token_of}
 use Rattle.bsp_heads.specs.Head.{AreParts, IsHead, headers_of}
-use Rattle.bsp_replies.specs.Replies.{ReplyText}
+use Rattle.bsp_routes.specs.Replies.{ReplyText}
 use Rattle.bsp_heads.specs.Responses.{refusal_reply, response}
 use Rattle.bsp_heads.specs.Scan.{HasScanned, head_len}
 use Rattle.bsp_heads.specs.declared.fault.Refused.{Refused}

@@ -1,7 +1,7 @@
 -- Requests and replies as their bytes, and what of a body is answered.
 use Rattle.std.specs.Prelude.{ℕ, Bool, true, false, List, [], ◌∷◌, if◌then◌else◌, Option}
 use Rattle.std.specs.Option.{option_map}
-use Rattle.bsp_replies.specs.Replies.{ReplyText}
+use Rattle.bsp_routes.specs.Replies.{ReplyText}
 use Rattle.bsp_heads.specs.Responses.{continue_text}
 use Rattle.bsp_connection.specs.declared.service.Message.{Message}
 

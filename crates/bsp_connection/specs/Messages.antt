@@ -2,7 +2,7 @@
 use Rattle.std.specs.Prelude.{◌≡◌, ℕ, ◌+◌, ◌<◌, Bool, true, false, ◌||◌, List, [], ◌∷◌, ◌++◌, ◌==◌}
 use Rattle.std.specs.List.{FoldsTo, flat_map}
 use Rattle.httparse.specs.Grammar.{RequestHead}
-use Rattle.bsp_replies.specs.Replies.{ReplyText}
+use Rattle.bsp_routes.specs.Replies.{ReplyText}
 use Rattle.bsp_heads.specs.Responses.{refusal_reply, response}
 use Rattle.bsp_heads.specs.declared.fault.Refused.{Refused}
 use Rattle.bsp_heads.specs.declared.parts.Wanted.{Wanted}

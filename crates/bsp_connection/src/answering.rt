@@ -4,7 +4,7 @@ ghost use Rattle.std.specs.Prelude.{◌≡◌, ◌≤◌, ◌<◌, ◌+◌, ◌|
 ghost use Rattle.std.specs.Option.{IsSome};
 ghost use Rattle.bsp_connection.specs.Exchanges.{inquiry, request_of, used};
 ghost use Rattle.bsp_connection.specs.Conversations.{HasRefusal, IsRun};
-ghost use Rattle.bsp_replies.specs.Replies.{ReplyText, reply_text};
+ghost use Rattle.bsp_routes.specs.Replies.{ReplyText, reply_text};
 ghost use Rattle.bsp_heads.specs.Responses.{response};
 ghost use Rattle.bsp_heads.specs.Scan.{head_len};
 ghost use Rattle.bsp_connection.specs.Begun.{HasBody, HasUnread, IsRead, asked_early, head_in};
@@ -17,7 +17,7 @@ use crate::heads::{Sought, seek};
 use crate::service::{Message, Service};
 use bsp_fields::NoRoom;
 use bsp_heads::{HeadFault, HeadParts, Refused, Scan, interim, read_head, refusal};
-use bsp_replies::Reply;
+use bsp_routes::Reply;
 
 /// The messages that were answered before the last that a connection may have.
 const LAST: usize = 65_535;

@@ -3,13 +3,13 @@
 ghost use Rattle.std.specs.Prelude.{◌≡◌, ◌≤◌, ◌-◌, ◌+◌, List, ℕ, [], ◌++◌, length, take, drop, not, Bool, true, false, if◌then◌else◌};
 ghost use Rattle.std.specs.Cow.{cow_slice_items};
 ghost use Rattle.bsp_heads.specs.ResponseHeads.{head_text};
-ghost use Rattle.bsp_replies.specs.Replies.{reply_text};
+ghost use Rattle.bsp_routes.specs.Replies.{reply_text};
 ghost use Rattle.bsp_heads.specs.Responses.{reply_head, response};
 ghost use Rattle.bsp_connection.specs.Outputs.{HasOutput};
 
 use crate::apart::{Apart, after, from};
 use bsp_heads::{HEAD_ROOM, ResponseHead};
-use bsp_replies::Reply;
+use bsp_routes::Reply;
 use std::alloc::Global;
 use std::borrow::CowSlice;
 use std::marker::Model;

@@ -1,11 +1,11 @@
 //! What answers the messages of a connection.
 
 ghost use Rattle.std.specs.Prelude.{◌≡◌, ◌<◌, ◌++◌, ℕ, List, [], length, true, is_some, IfSome, IfOk, OnOk, OnErr};
-ghost use Rattle.bsp_replies.specs.Replies.{reply_text};
+ghost use Rattle.bsp_routes.specs.Replies.{reply_text};
 ghost use Rattle.bsp_connection.specs.Exchanges.{Meaning, Reading, request_of};
 
 use bsp_fields::NoRoom;
-use bsp_replies::Reply;
+use bsp_routes::Reply;
 
 /// A request whose head was read.
 #[derive(Clone, Copy)]

@@ -1,8 +1,8 @@
 -- Of one answer there is one reply, so the same answers to a caller are the same replies to it.
 use Rattle.std.proofs.Common.{◌≡◌, ℕ, Bool, true, false, cond, List, [], ◌∷◌, ◌++◌, Option, Some, None, map, refl, sym, subst, ◌∙◌}
-use Rattle.bsp_replies.specs.declared.reply.Reply.{Reply}
-use Rattle.bsp_replies.specs.declared.status.Media.{Media}
-use Rattle.bsp_replies.specs.declared.status.Status.{Status}
+use Rattle.bsp_routes.specs.declared.reply.Reply.{Reply}
+use Rattle.bsp_routes.specs.declared.status.Media.{Media}
+use Rattle.bsp_routes.specs.declared.status.Status.{Status}
 use Rattle.bsp_rows.specs.Rows.{Rows}
 use Rattle.bsp_desk_writes.proofs.AirlineIsolated.{airlines_alike}
 use Rattle.bsp_desk_writes.proofs.Isolated.{alike}

@@ -4,7 +4,7 @@ use Rattle.bsp_messages.specs.Answers.{status_of, text_of}
 use Rattle.bsp_messages.specs.Values.{airline_in, period_in}
 use Rattle.bsp_messages.specs.declared.answer.Answer.{Answer as Message}
 use Rattle.bsp_messages.specs.declared.refusal.RequestRefusal.TheVariants.{Forbidden}
-use Rattle.bsp_replies.specs.declared.status.Status.TheVariants as status
+use Rattle.bsp_routes.specs.declared.status.Status.TheVariants as status
 use Rattle.bsp_rows.specs.Period.{Period}
 use Rattle.bsp_rows.specs.Published.{closed_period}
 use Rattle.bsp_rows.specs.Rows.{Rows, airline_token}

@@ -1,4 +1,14 @@
 -- Lemmas of this crate.
+pub mod OwnRows
+pub mod AirlineRows
+pub mod PeriodRows
+pub mod Posted
+pub mod FewTallies
+pub mod PeriodSums
+pub mod Shown
+pub mod DocumentRows
+pub mod NumberOrder
+pub mod StockRows
 pub mod Known
 pub mod Transactions
 pub mod Fits
@@ -9,5 +19,5 @@ pub mod BooksAlike
 pub mod ListsRead
 pub mod HotReplies
 pub mod Outliving
-pub use Rattle.bsp_desk_writes.proofs.RequestsRead
 pub mod InstructionLemmas
+pub use Rattle.bsp_desk_writes.proofs.RequestsRead

@@ -2,7 +2,7 @@
 use Rattle.std.proofs.Common.{ℕ, List, None, Option, subst, sym}
 use Rattle.std.specs.Prelude.{unwrap_or}
 use Rattle.bsp_book.specs.Calls.{Meaning}
-use Rattle.bsp_replies.specs.declared.reply.Reply.{Reply}
+use Rattle.bsp_routes.specs.declared.reply.Reply.{Reply}
 use Rattle.bsp_rows.specs.Rows.{Rows}
 use Rattle.bsp_desk.specs.Steps.{Answers, left_by}
 use Rattle.bsp_desk.specs.Stops.{Outlives}

@@ -2,7 +2,7 @@
 use Rattle.std.proofs.Common.{◌≡◌, ◌⊎◌, inl, inr, ℕ, Bool, true, false, List, [], ◌∷◌, ◌++◌, Some, None, refl, sym, ap, subst, ◌∙◌}
 use Rattle.bsp_book.specs.Calls.{Meaning}
 use Rattle.bsp_messages.specs.declared.refusal.RequestRefusal.TheVariants.{NoRoom, StoreFailed}
-use Rattle.bsp_replies.specs.declared.reply.Reply.{Reply}
+use Rattle.bsp_routes.specs.declared.reply.Reply.{Reply}
 use Rattle.bsp_rows.specs.Rows.{Rows}
 use Rattle.bsp_rows.specs.Sound.{Sound}
 use Rattle.bsp_desk_writes.proofs.AirlineIsolated.{airline_isolated}

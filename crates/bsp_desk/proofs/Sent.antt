@@ -9,9 +9,9 @@ use Rattle.bsp_messages.specs.Answers.{status_of}
 use Rattle.bsp_messages.specs.Refusals.{code_object}
 use Rattle.bsp_messages.specs.declared.answer.Answer.{Answer as Message}
 use Rattle.bsp_messages.specs.declared.refusal.RequestRefusal.TheVariants.{NoRoom, StoreFailed}
-use Rattle.bsp_replies.specs.declared.reply.Reply.{Reply}
-use Rattle.bsp_replies.specs.declared.status.Status.{Status}
-use Rattle.bsp_replies.specs.declared.status.Status.TheVariants as status
+use Rattle.bsp_routes.specs.declared.reply.Reply.{Reply}
+use Rattle.bsp_routes.specs.declared.status.Status.{Status}
+use Rattle.bsp_routes.specs.declared.status.Status.TheVariants as status
 use Rattle.bsp_routes.specs.Calls.{asking_text}
 use Rattle.bsp_routes.specs.declared.asking.Asking.{Asking}
 use Rattle.bsp_routes.specs.declared.asking.Asking.TheVariants as asking

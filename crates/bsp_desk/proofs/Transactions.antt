@@ -5,7 +5,7 @@ use Rattle.bsp_book.specs.Calls.{Begins, FallsBack, Faults, LeavesEither, Leaves
 use Rattle.bsp_book.specs.declared.fault.BookFault.{BookFault}
 use Rattle.bsp_book.specs.declared.fault.BookFault.TheVariants.{NoRoom, Failed}
 use Rattle.bsp_messages.specs.declared.answer.Answer.{Answer as Message}
-use Rattle.bsp_replies.specs.declared.reply.Reply.{Reply}
+use Rattle.bsp_routes.specs.declared.reply.Reply.{Reply}
 use Rattle.bsp_rows.specs.Rows.{Rows}
 use Rattle.bsp_rows.specs.Sound.{Sound}
 use Rattle.bsp_desk_writes.specs.Serves.{EndsOnFault, FallsBackSound, Finds, LeavesLastSound}

@@ -1,7 +1,7 @@
 -- What two books of the same rows reply to the same requests.
 use Rattle.std.specs.Prelude.{◌≡◌, ℕ, false, List, [], ◌∷◌, None, map}
 use Rattle.bsp_book.specs.Calls.{Meaning}
-use Rattle.bsp_replies.specs.declared.reply.Reply.{Reply}
+use Rattle.bsp_routes.specs.declared.reply.Reply.{Reply}
 use Rattle.bsp_rows.specs.Rows.{Rows}
 use Rattle.bsp_rows.specs.Sound.{Sound}
 use Rattle.bsp_desk_writes.specs.Requests.{Request as Reading}

@@ -1,8 +1,8 @@
 -- What is sent of a HOT file.
 use Rattle.std.specs.Prelude.{◌≡◌, ℕ, Bool, true, false, List}
 use Rattle.std.specs.Cow.{cow_slice_items}
-use Rattle.bsp_replies.specs.declared.reply.Reply.{Reply}
-use Rattle.bsp_replies.specs.declared.status.Status.TheVariants as status
+use Rattle.bsp_routes.specs.declared.reply.Reply.{Reply}
+use Rattle.bsp_routes.specs.declared.status.Status.TheVariants as status
 use Rattle.bsp_rows.specs.Rows.{Rows}
 use Rattle.bsp_rows.specs.Lines.{lines}
 use Rattle.bsp_book.specs.Calls.{Meaning}

@@ -1,6 +1,6 @@
 -- What callers read of the replies to them: it follows from what they see.
 use Rattle.std.specs.Prelude.{◌≡◌, ℕ, List, [], ◌∷◌, ◌++◌, map}
-use Rattle.bsp_replies.specs.declared.reply.Reply.{Reply}
+use Rattle.bsp_routes.specs.declared.reply.Reply.{Reply}
 use Rattle.bsp_rows.specs.Rows.{Rows}
 use Rattle.bsp_desk_writes.specs.AirlineLedger.{AirlineLedger, airline_ledger_of}
 use Rattle.bsp_desk_writes.specs.AirlineView.{AirlineSight, airline_all, airline_reply_sights, airline_told_reply, airline_view}

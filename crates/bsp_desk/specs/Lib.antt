@@ -1,4 +1,7 @@
 -- How requests are read and answered, and what a run of them is.
+pub mod Sums
+pub mod Documents
+pub mod Stock
 pub mod Calls
 pub mod Callers
 pub mod Reading
@@ -15,7 +18,7 @@ pub use Rattle.bsp_book.specs.declared.fault.BookFault
 pub use Rattle.bsp_desk_writes.specs.Contents
 pub use Rattle.bsp_desk_writes.specs.Requests
 pub use Rattle.bsp_desk_writes.specs.declared.content.Content
-pub use Rattle.bsp_replies.specs.declared.reply.Reply
+pub use Rattle.bsp_routes.specs.declared.reply.Reply
 pub use Rattle.bsp_messages.specs.Answers
 pub use Rattle.bsp_messages.specs.declared.answer.Answer
 pub use Rattle.bsp_messages.specs.declared.refusal.RequestRefusal

@@ -5,10 +5,10 @@ use Rattle.bsp_messages.specs.Replies.{IsReply}
 use Rattle.bsp_messages.specs.declared.answer.Answer.{Answer as Message}
 use Rattle.bsp_messages.specs.declared.answer.Answer.TheVariants.{Refused}
 use Rattle.bsp_messages.specs.declared.refusal.RequestRefusal.{RequestRefusal}
-use Rattle.bsp_replies.specs.declared.reply.Reply.{Reply}
-use Rattle.bsp_replies.specs.declared.status.Media.{Media}
-use Rattle.bsp_replies.specs.declared.status.Status.{Status}
-use Rattle.bsp_replies.specs.declared.status.Status.TheVariants as status
+use Rattle.bsp_routes.specs.declared.reply.Reply.{Reply}
+use Rattle.bsp_routes.specs.declared.status.Media.{Media}
+use Rattle.bsp_routes.specs.declared.status.Status.{Status}
+use Rattle.bsp_routes.specs.declared.status.Status.TheVariants as status
 use Rattle.bsp_routes.specs.declared.asking.Asking.{Asking}
 use Rattle.bsp_routes.specs.declared.asking.Asking.TheVariants as asking
 use Rattle.bsp_routes.specs.declared.methods.Methods.{Methods}

@@ -4,7 +4,7 @@ use Rattle.bsp_book.specs.Calls.{Meaning}
 use Rattle.bsp_rows.specs.Published.{closed_period}
 use Rattle.bsp_rows.specs.Period.{Period}
 use Rattle.bsp_messages.specs.declared.refusal.RequestRefusal.TheVariants.{NoRoom, StoreFailed}
-use Rattle.bsp_replies.specs.declared.reply.Reply.{Reply}
+use Rattle.bsp_routes.specs.declared.reply.Reply.{Reply}
 use Rattle.bsp_rows.specs.Transaction.{Transaction}
 use Rattle.bsp_rows.specs.Rows.{Rows, item_at}
 use Rattle.bsp_rows.specs.declared.keys.ItemKey.{ItemKey}

@@ -4,7 +4,7 @@ use Rattle.bsp_book.specs.Calls.{Faults, Meaning}
 use Rattle.bsp_book.specs.declared.fault.BookFault.{BookFault}
 use Rattle.bsp_messages.specs.declared.answer.Answer.{Answer as Message}
 use Rattle.bsp_messages.specs.declared.refusal.RequestRefusal.TheVariants.{NoRoom, NoRoute, OtherMethod, StoreFailed}
-use Rattle.bsp_replies.specs.declared.reply.Reply.{Reply}
+use Rattle.bsp_routes.specs.declared.reply.Reply.{Reply}
 use Rattle.bsp_routes.specs.Calls.{asking_text}
 use Rattle.bsp_routes.specs.declared.asking.Asking.TheVariants as asking
 use Rattle.bsp_routes.specs.declared.methods.Methods.{Methods}

@@ -2,7 +2,7 @@
 use Rattle.std.specs.Prelude.{◌≡◌, ℕ, List, true, false}
 use Rattle.bsp_book.specs.Calls.{Meaning}
 use Rattle.bsp_messages.specs.declared.refusal.RequestRefusal.TheVariants.{NoRoom, StoreFailed}
-use Rattle.bsp_replies.specs.declared.reply.Reply.{Reply}
+use Rattle.bsp_routes.specs.declared.reply.Reply.{Reply}
 use Rattle.bsp_rows.specs.Rows.{Rows}
 use Rattle.bsp_desk.specs.Replies.{Refuses, is_unavailable}
 use Rattle.bsp_desk.specs.Steps.{OfRequest, left_by}

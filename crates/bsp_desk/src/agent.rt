@@ -6,8 +6,11 @@ ghost use Rattle.bsp_desk_writes.specs.Contents.{IsAgentCall};
 ghost use Rattle.bsp_desk_writes.specs.Serves.{EndsOnFault, ServesAgent};
 ghost use Rattle.bsp_desk_writes.specs.Requests.{AgentRequest};
 
+use crate::documents::document;
+use crate::periods::period;
+use crate::statements::statement;
+use crate::stocks::stock;
 use bsp_book::{Book, BookFault};
-use bsp_desk_reads::{document, period, statement, stock};
 use bsp_desk_writes::{Content, agent_memos, agree, dispute, report_of_agent};
 use bsp_messages::Answer;
 use bsp_routes::AgentCall;

@@ -6,8 +6,8 @@ ghost use Rattle.bsp_desk_writes.specs.Contents.{bytes_in};
 ghost use Rattle.bsp_desk_writes.specs.Serves.{EndsOnFault, ServesAirline};
 ghost use Rattle.bsp_desk_writes.specs.Requests.{AirlineRequest, IsAirlineRequest};
 
+use crate::hot_files::hot;
 use bsp_book::{Book, BookFault};
-use bsp_desk_reads::hot;
 use bsp_desk_writes::{Content, airline_memos, issue, reduce, uphold, withdraw};
 use bsp_messages::Answer;
 use bsp_routes::AirlineCall;

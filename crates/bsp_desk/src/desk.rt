@@ -20,9 +20,8 @@ use crate::transaction::answer_call;
 use bsp_book::{Book, BookFault};
 use bsp_desk_writes::Content;
 use bsp_messages::{Answer, RequestRefusal};
-use bsp_replies::Reply;
 use bsp_ret::RetFile;
-use bsp_routes::{Asking, Call, Methods};
+use bsp_routes::{Asking, Call, Methods, Reply};
 use bsp_rows::{AgentCode, Token};
 use std::alloc::Global;
 

@@ -6,8 +6,8 @@ ghost use Rattle.bsp_desk_writes.specs.Ledger.{agent_of};
 ghost use Rattle.bsp_desk.specs.Instructions.{CommitsOwn, EndsOwn, EndsWithin, IsMeant, IsReport, ServesOwn};
 
 use crate::instruction::Instruction;
+use crate::statements::statement;
 use bsp_book::{Book, BookFault};
-use bsp_desk_reads::statement;
 use bsp_desk_writes::{
     Reporter, allot_stated, close_period, publish, report_file, set_agent, set_business_day,
 };

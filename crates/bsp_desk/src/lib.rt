@@ -3,21 +3,27 @@
 //! The rules are those of `docs/API.md`, and `bsp_office_spec` defines them. Each request is one transaction of the
 //! book: its reply is made before the commit, so a refusal and a 503 B01 leave the rows as they were.
 //!
-//! `bsp_desk_writes` serves the requests that change the book. `bsp_desk_reads` serves those that show what is in it, and
-//! change nothing: the settlement of a period, an agent's statement, its sums in a period, its documents and its stock,
-//! and an airline's HOT file.
+//! `bsp_desk_writes` serves the requests that change the book. Those that show what is in it are served here, each in the
+//! open transaction of the book, and change nothing: the settlement of a period, an agent's statement, its sums in a
+//! period, its documents and its stock, and an airline's HOT file.
 #![tactic(auto)]
 
 mod agent;
 mod airline;
 mod caller;
 mod desk;
+mod documents;
+mod hot_files;
 mod instructed;
 mod instruction;
 mod laws;
 mod office;
+mod periods;
 mod request;
 mod serve;
+mod settlements;
+mod statements;
+mod stocks;
 mod token;
 mod transaction;
 mod wanted;
@@ -25,8 +31,7 @@ mod wanted;
 pub use bsp_book::{Book, BookFault};
 pub use bsp_desk_writes::Content;
 pub use bsp_messages::RequestRefusal;
-pub use bsp_replies::Reply;
-pub use bsp_routes::{Asking, BodyKind, Route};
+pub use bsp_routes::{Asking, BodyKind, Reply, Route};
 pub use bsp_rows::Token;
 pub use desk::Desk;
 pub use instruction::Instruction;

@@ -6,8 +6,8 @@ ghost use Rattle.bsp_desk_writes.specs.Contents.{IsOfficeCall};
 ghost use Rattle.bsp_desk_writes.specs.Serves.{EndsOnFault, ServesOffice};
 ghost use Rattle.bsp_desk_writes.specs.Requests.{OfficeRequest};
 
+use crate::settlements::settlement;
 use bsp_book::{Book, BookFault};
-use bsp_desk_reads::settlement;
 use bsp_desk_writes::{
     Content, allot, close, publish, register_agent, register_airline, report_of_office, set_day,
     withdraw_range,

@@ -9,8 +9,7 @@ use crate::serve::serve;
 use bsp_book::{Book, BookFault};
 use bsp_desk_writes::{Content, give_up};
 use bsp_messages::reply_of;
-use bsp_replies::{Reply, Status};
-use bsp_routes::Call;
+use bsp_routes::{Call, Reply, Status};
 use bsp_rows::Token;
 use std::alloc::Global;
 

@@ -2,11 +2,11 @@
 use Rattle.std.specs.Prelude.{ℕ, Bool, true, false, List, [], ◌∷◌, ◌++◌, codes, decimal, Option, Some, None}
 use Rattle.bsp_routes.specs.Calls.{allow_text}
 use Rattle.bsp_routes.specs.declared.methods.Methods.{Methods}
-use Rattle.bsp_replies.specs.declared.status.Status.{Status}
-use Rattle.bsp_replies.specs.declared.status.Status.TheVariants as status
-use Rattle.bsp_replies.specs.declared.status.Media.{Media}
-use Rattle.bsp_replies.specs.declared.status.Media.TheVariants as media
-use Rattle.bsp_replies.specs.Replies.{code}
+use Rattle.bsp_routes.specs.declared.status.Status.{Status}
+use Rattle.bsp_routes.specs.declared.status.Status.TheVariants as status
+use Rattle.bsp_routes.specs.declared.status.Media.{Media}
+use Rattle.bsp_routes.specs.declared.status.Media.TheVariants as media
+use Rattle.bsp_routes.specs.Replies.{code}
 use Rattle.bsp_heads.specs.declared.response_head.ResponseHead.{ResponseHead}
 
 abbrev pub phrase : Status → List ℕ

@@ -1,12 +1,12 @@
 -- The whole text of a response, and the answers to refused heads.
 use Rattle.std.specs.Prelude.{ℕ, Bool, List, [], ◌++◌, length, if◌then◌else◌, codes, None}
-use Rattle.bsp_replies.specs.declared.status.Status.{Status}
-use Rattle.bsp_replies.specs.declared.status.Status.TheVariants as status
-use Rattle.bsp_replies.specs.declared.status.Media.TheVariants as media
+use Rattle.bsp_routes.specs.declared.status.Status.{Status}
+use Rattle.bsp_routes.specs.declared.status.Status.TheVariants as status
+use Rattle.bsp_routes.specs.declared.status.Media.TheVariants as media
 use Rattle.bsp_heads.specs.declared.response_head.ResponseHead.{ResponseHead}
 use Rattle.bsp_heads.specs.declared.fault.HeadFault.{HeadFault}
 use Rattle.bsp_heads.specs.declared.fault.HeadFault.TheVariants.{Malformed, LengthRequired, BodyTooLarge, HeadTooLarge, TransferCoding}
-use Rattle.bsp_replies.specs.Replies.{ReplyText}
+use Rattle.bsp_routes.specs.Replies.{ReplyText}
 use Rattle.bsp_heads.specs.ResponseHeads.{head_text}
 
 abbrev pub reply_head : Bool → ReplyText → ResponseHead

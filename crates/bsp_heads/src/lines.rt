@@ -1,11 +1,10 @@
 //! The lines of a response's head.
 
 ghost use Rattle.std.specs.Prelude.{◌≡◌, ◌≤◌, ◌++◌, codes, decimal, length};
-ghost use Rattle.bsp_replies.specs.Replies.{code};
+ghost use Rattle.bsp_routes.specs.Replies.{code};
 ghost use Rattle.bsp_heads.specs.ResponseHeads.{allow_lines, closing_lines, lines_text, media_type, phrase};
 
-use bsp_replies::{Media, Status};
-use bsp_routes::Methods;
+use bsp_routes::{Media, Methods, Status};
 
 /// The status line (RFC 9112, section 4).
 pub(crate) fn status_line(status: Status) -> &'static [u8]

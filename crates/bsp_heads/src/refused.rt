@@ -1,11 +1,11 @@
 //! The answers to requests whose head is refused.
 
 ghost use Rattle.std.specs.Prelude.{◌≡◌};
-ghost use Rattle.bsp_replies.specs.Replies.{reply_text};
+ghost use Rattle.bsp_routes.specs.Replies.{reply_text};
 ghost use Rattle.bsp_heads.specs.Responses.{refusal_reply};
 
 use crate::fault::HeadFault;
-use bsp_replies::{Media, Reply, Status};
+use bsp_routes::{Media, Reply, Status};
 use std::borrow::CowSlice;
 
 /// The status of the answer.

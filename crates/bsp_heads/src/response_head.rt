@@ -7,8 +7,7 @@ ghost use Rattle.bsp_heads.specs.Responses.{continue_text};
 use crate::append::put;
 use crate::lines::{allow_line, body_lines, last_lines, status_line};
 use crate::text::HeadText;
-use bsp_replies::{Media, Status};
-use bsp_routes::Methods;
+use bsp_routes::{Media, Methods, Status};
 use itoa::Buffer;
 
 /// Room for the head of any response, in bytes.

@@ -4,7 +4,7 @@ use Rattle.bsp_desk.specs.BookCalls.{Meaning}
 use Rattle.bsp_connection.specs.Conversations.{IsRun}
 use Rattle.bsp_connection.specs.Exchanges.{Exchange, RequestText}
 use Rattle.bsp_connection.specs.Exchanges.Exchange.{wants, replies}
-use Rattle.bsp_replies.specs.Replies.{ReplyText, reply_text}
+use Rattle.bsp_routes.specs.Replies.{ReplyText, reply_text}
 use Rattle.bsp_desk.specs.Runs.{RanOver}
 use Rattle.bsp_desk.specs.declared.desk.Desk.{Desk}
 use Rattle.bsp_desk.specs.Replies.{allow_of}

@@ -10,7 +10,7 @@ use Rattle.bsp_desk.specs.Steps.{Answers}
 use Rattle.bsp_desk.specs.declared.desk.Desk.{Desk}
 use Rattle.bsp_desk.specs.declared.request.Request.{Request}
 use Rattle.bsp_desk.specs.Reply.{Reply}
-use Rattle.bsp_replies.specs.Replies.{ReplyText, reply_text}
+use Rattle.bsp_routes.specs.Replies.{ReplyText, reply_text}
 use Rattle.bsp_ret.specs.Ret.{File}
 use Rattle.bsp_ret.specs.declared.model.RetFault.{RetFault}
 use Rattle.bsp_desk.specs.RoutesCalls.{Asks, asking_text}

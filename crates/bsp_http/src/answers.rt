@@ -2,7 +2,7 @@
 
 ghost use Rattle.std.specs.Prelude.{◌≡◌, ◌<◌, ℕ, List, length, None, Some, IfOk, OnErr, MatchResult};
 ghost use Rattle.bsp_connection.specs.Exchanges.{request_of};
-ghost use Rattle.bsp_replies.specs.Replies.{reply_text};
+ghost use Rattle.bsp_routes.specs.Replies.{reply_text};
 ghost use Rattle.bsp_desk.specs.Routed.{IsRouteOf};
 ghost use Rattle.bsp_ret.specs.Lines.{lines};
 ghost use Rattle.bsp_ret.specs.Table.{first_fault};
@@ -14,8 +14,8 @@ use crate::journal::Journal;
 use bsp_connection::Message;
 use bsp_desk::{BodyKind, Book, Content, Desk, Request, Route};
 use bsp_fields::NoRoom;
-use bsp_replies::Reply;
 use bsp_ret::{RetFault, RetFile, RetReader};
+use bsp_routes::Reply;
 
 /// The content that a body is, read as a RET file.
 fn content_of<'f>(file: Result<&'f RetFile<'f>, RetFault>) -> Content<'f>

@@ -2,7 +2,7 @@
 
 use bsp_connection::Message;
 use bsp_desk::{Asking, Book, Desk};
-use bsp_replies::Reply;
+use bsp_routes::Reply;
 
 /// Takes note of the replies of an office over a book of type `B`.
 pub trait Journal<B: Book> {

@@ -14,8 +14,7 @@ mod office;
 
 pub use bsp_connection::{End, Message, ServeFault, Served};
 pub use bsp_peers::{Awaited, Ending, Happened, Limits, Moved, Peers};
-pub use bsp_replies::{Reply, Status};
-pub use bsp_routes::Routes;
+pub use bsp_routes::{Reply, Routes, Status};
 pub use bsp_streams::Noted;
 pub use connection::{serve, serve_all};
 pub use journal::{Journal, NoJournal};

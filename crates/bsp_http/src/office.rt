@@ -10,8 +10,7 @@ use crate::journal::Journal;
 use bsp_connection::{Message, Service};
 use bsp_desk::{Book, Desk, RequestRefusal};
 use bsp_fields::NoRoom;
-use bsp_replies::Reply;
-use bsp_routes::Routes;
+use bsp_routes::{Reply, Routes};
 use std::alloc::Global;
 
 /// Answers messages at the office's desk, by the office's routes.

@@ -21,10 +21,10 @@ use Rattle.bsp_rules.specs.declared.verdict.Verdict.TheVariants as verdict
 use Rattle.bsp_memos.specs.Texts.{kind_text, state_text as memo_state_text}
 use Rattle.bsp_memos.specs.declared.fields.MemoFields.{MemoFields}
 use Rattle.bsp_messages.specs.Refusals.{code_object, refusal_code, refusal_status}
-use Rattle.bsp_replies.specs.declared.status.Status.{Status}
-use Rattle.bsp_replies.specs.declared.status.Status.TheVariants as status
-use Rattle.bsp_replies.specs.declared.status.Media.{Media}
-use Rattle.bsp_replies.specs.declared.status.Media.TheVariants as media
+use Rattle.bsp_routes.specs.declared.status.Status.{Status}
+use Rattle.bsp_routes.specs.declared.status.Status.TheVariants as status
+use Rattle.bsp_routes.specs.declared.status.Media.{Media}
+use Rattle.bsp_routes.specs.declared.status.Media.TheVariants as media
 use Rattle.bsp_messages.specs.declared.answer.DocumentState.{DocumentState}
 use Rattle.bsp_messages.specs.declared.answer.DocumentState.TheVariants as state
 use Rattle.bsp_messages.specs.declared.answer.DocumentShown.{DocumentShown}

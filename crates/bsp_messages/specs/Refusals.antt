@@ -11,8 +11,8 @@ use Rattle.bsp_messages.specs.declared.refusal.StockFault.{StockFault}
 use Rattle.bsp_messages.specs.declared.refusal.StockFault.TheVariants as stock
 use Rattle.bsp_messages.specs.declared.refusal.RequestRefusal.{RequestRefusal}
 use Rattle.bsp_messages.specs.declared.refusal.RequestRefusal.TheVariants.{Forbidden, NoRoute, OtherMethod, Malformed, WrongAgentCode, AirlineNotInPlan, Plan, Stock, Memo, NoDocument, UnknownPeriod, HotTooLarge, NoHot, NoRoom, StoreFailed}
-use Rattle.bsp_replies.specs.declared.status.Status.{Status}
-use Rattle.bsp_replies.specs.declared.status.Status.TheVariants as status
+use Rattle.bsp_routes.specs.declared.status.Status.{Status}
+use Rattle.bsp_routes.specs.declared.status.Status.TheVariants as status
 
 -- `{"code":"X"}`
 abbrev pub code_object : List ℕ → Data

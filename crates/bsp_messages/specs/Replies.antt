@@ -1,7 +1,7 @@
 -- Replies: an answer's status, media type and bytes.
 use Rattle.std.specs.Prelude.{◌≡◌, Bool, true, false}
 use Rattle.std.specs.Cow.{cow_slice_items}
-use Rattle.bsp_replies.specs.declared.reply.Reply.{Reply}
+use Rattle.bsp_routes.specs.declared.reply.Reply.{Reply}
 use Rattle.bsp_ret.specs.declared.model.FaultCode.{FaultCode}
 use Rattle.bsp_ret.specs.declared.model.FaultCode.TheVariants.{F10}
 use Rattle.bsp_messages.specs.declared.answer.Answer.{Answer}

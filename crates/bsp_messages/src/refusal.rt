@@ -6,7 +6,7 @@ ghost use Rattle.bsp_messages.specs.Refusals.{code_object, memo_code, plan_code,
 
 use bsp_calendar::PlanFault;
 use bsp_memos::MemoFault;
-use bsp_replies::Status;
+use bsp_routes::Status;
 
 /// Why a change of an agent's stock is refused, in the order in which it is judged.
 #[derive(Clone, Copy)]

@@ -12,8 +12,8 @@ use crate::objects::{document_text, period_text, record_text};
 use crate::refusal::RequestRefusal;
 use crate::verdicts::results_text;
 use bsp_fields::{Change, NoRoom};
-use bsp_replies::{Media, Reply, Status};
 use bsp_ret::{FaultCode, RetFault};
+use bsp_routes::{Media, Reply, Status};
 use std::alloc::Global;
 use std::borrow::CowSlice;
 

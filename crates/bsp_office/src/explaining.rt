@@ -2,7 +2,7 @@
 
 use crate::whole_files::{printed, short_of_memory};
 use bsp_check::{DONE, WRONG_WORDS};
-use bsp_codes::{explanation, listing};
+use bsp_fault_texts::{explanation, listing};
 
 /// Explains a code, in capital or small letters, and answers the exit status.
 fn explain_code(rt: &HostRuntime, code: &str) -> u8 {

@@ -20,7 +20,7 @@ use Rattle.bsp_hot_check.specs.Records.{file_totals}
 use Rattle.bsp_hot_check.specs.Sums.{with_net}
 use Rattle.bsp_messages.specs.Answers.{status_of, text_of}
 use Rattle.bsp_messages.specs.declared.answer.Answer.{Answer as Message}
-use Rattle.bsp_replies.specs.declared.status.Status.TheVariants as status
+use Rattle.bsp_routes.specs.declared.status.Status.TheVariants as status
 use Rattle.bsp_statement.specs.Reports.{IsSettlement, of_period}
 use Rattle.bsp_statement.specs.Sums.{figures_of}
 use Rattle.bsp_statement.specs.Texts.{figures_line, settlement_text}

@@ -14,7 +14,7 @@ use Rattle.bsp_hot_check.specs.Checked.{HasTotals}
 use Rattle.bsp_hot_check.specs.declared.model.HotTotals.{HotTotals}
 use Rattle.bsp_messages.specs.Answers.{status_of, text_of}
 use Rattle.bsp_messages.specs.declared.answer.Answer.{Answer as Message}
-use Rattle.bsp_replies.specs.declared.status.Status.TheVariants as status
+use Rattle.bsp_routes.specs.declared.status.Status.TheVariants as status
 use Rattle.bsp_office_spec.specs.AirlineLedger.{airline_ledger_of, hot_rows}
 use Rattle.bsp_office_spec.specs.Answers.{HotRows}
 use Rattle.bsp_office_spec.specs.Answers.Answer.{Hot}

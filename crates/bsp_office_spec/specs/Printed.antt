@@ -19,7 +19,7 @@ use Rattle.bsp_hot_check.specs.Totals.{Totals}
 use Rattle.bsp_hot_check.specs.declared.model.HotTotals.{HotTotals}
 use Rattle.bsp_messages.specs.Answers.{status_of, text_of}
 use Rattle.bsp_messages.specs.declared.answer.Answer.{Answer as Message}
-use Rattle.bsp_replies.specs.declared.status.Status.TheVariants as status
+use Rattle.bsp_routes.specs.declared.status.Status.TheVariants as status
 use Rattle.bsp_statement.specs.Sums.{AreCodes, figures_of}
 use Rattle.bsp_statement.specs.Texts.{figures_line, settlement_text}
 use Rattle.bsp_statement.specs.declared.nets.AgentNet.{AgentNet}

@@ -5,3 +5,4 @@ pub mod Resources
 pub mod Rows
 pub mod Matches
 pub mod Routed
+pub mod Replies

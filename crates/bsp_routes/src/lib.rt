@@ -1,4 +1,5 @@
-//! Which call of the office's HTTP interface a method and a target ask for, and which body the call has.
+//! Which call of the office's HTTP interface a method and a target ask for, which body the call has, and what is
+//! answered to it: a [`Reply`], from the desk to the bytes that are sent.
 //!
 //! [`Routes::ask`] answers with the [`Call`] whose path the target is, with another method than those of the
 //! target's resource, or with no route. What a path value says is read elsewhere. Of the public calls only
@@ -11,9 +12,11 @@ mod call;
 mod found;
 mod methods;
 mod patterns;
+mod reply;
 mod resource;
 mod route;
 mod routes;
+mod status;
 mod target;
 mod values;
 
@@ -21,5 +24,7 @@ pub use asking::Asking;
 pub use body::BodyKind;
 pub use call::{AgentCall, AirlineCall, Call, OfficeCall};
 pub use methods::Methods;
+pub use reply::Reply;
 pub use route::{Located, Route};
 pub use routes::Routes;
+pub use status::{Media, Status};

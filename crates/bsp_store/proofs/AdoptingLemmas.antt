@@ -19,9 +19,9 @@ use Rattle.bsp_store_open.proofs.OpeningLemmas.{still_clean}
 use Rattle.bsp_store_save.specs.Making.{IsNewBook}
 use Rattle.bsp_store_save.proofs.MakingLemmas.{new_trees}
 use Rattle.bsp_store.specs.Meanings.{Holds}
-use Rattle.bsp_store_migration.specs.Migrating.{IsMigrated, KeepsOldBook, KeepsOnlyOld, LeavesMigration}
-use Rattle.bsp_store_migration.specs.Old.{old_schema}
-use Rattle.bsp_store_migration.specs.declared.version.OldVersion.{OldVersion}
+use Rattle.bsp_store_open.specs.Migrating.{IsMigrated, KeepsOldBook, KeepsOnlyOld, LeavesMigration}
+use Rattle.bsp_store_open.specs.Old.{old_schema}
+use Rattle.bsp_store_open.specs.declared.old_versions.OldVersion.{OldVersion}
 use Rattle.bsp_store.specs.Adopting.{Adopts, IsFoundIn, IsMigratedIn, LeavesMigrated}
 use Rattle.bsp_store.specs.declared.book.SqlBook.{SqlBook}
 

@@ -17,10 +17,10 @@ use Rattle.bsp_store_open.specs.Opening.{Reopens}
 use Rattle.bsp_store_open.specs.Schema.{our_schema}
 use Rattle.bsp_store_open.specs.declared.fault.OpenFault.{OpenFault}
 use Rattle.bsp_store_open.proofs.FormedContent.{formed_content}
-use Rattle.bsp_store_migration.specs.Migrating.{IsOldBook, KeepsNoOld}
-use Rattle.bsp_store_migration.specs.declared.version.OldVersion.{OldVersion}
-use Rattle.bsp_store_migration.proofs.OldBookLemmas.{keeps_some, migrated_book, not_this_book, old_ours, only_rows}
-use Rattle.bsp_store_migration.proofs.VersionLemmas.{bare_not_ours, old_not_bare, old_not_ours}
+use Rattle.bsp_store_open.specs.Migrating.{IsOldBook, KeepsNoOld}
+use Rattle.bsp_store_open.specs.declared.old_versions.OldVersion.{OldVersion}
+use Rattle.bsp_store_open.proofs.OldBookLemmas.{keeps_some, migrated_book, not_this_book, old_ours, only_rows}
+use Rattle.bsp_store_open.proofs.VersionLemmas.{bare_not_ours, old_not_bare, old_not_ours}
 use Rattle.bsp_store_save.specs.Content.{form}
 use Rattle.bsp_store_save.specs.Kept.{KeepsRows}
 use Rattle.bsp_store.specs.Adopting.{Adopts, IsNewBookOf, LeavesWhole, ShowsNone, WasBare, WasNoBook}

@@ -10,10 +10,10 @@ use Rattle.bsp_store_open.specs.Opening.{LeavesCommitted, LeavesEmptyBook, Reope
 use Rattle.bsp_store_open.specs.Schema.{no_schema}
 use Rattle.bsp_store_open.specs.declared.fault.OpenFault.{OpenFault}
 use Rattle.bsp_store_open.proofs.OpeningLemmas.{IsSettled, left_committed, was_committed}
-use Rattle.bsp_store_migration.specs.Migrating.{IsMigrationOf, ShowsNoOldBook}
-use Rattle.bsp_store_migration.specs.Old.{old_schema}
-use Rattle.bsp_store_migration.specs.declared.version.OldVersion.{OldVersion}
-use Rattle.bsp_store_migration.proofs.VersionLemmas.{old_not_bare, old_not_ours, one_old}
+use Rattle.bsp_store_open.specs.Migrating.{IsMigrationOf, ShowsNoOldBook}
+use Rattle.bsp_store_open.specs.Old.{old_schema}
+use Rattle.bsp_store_open.specs.declared.old_versions.OldVersion.{OldVersion}
+use Rattle.bsp_store_open.proofs.VersionLemmas.{old_not_bare, old_not_ours, one_old}
 use Rattle.bsp_store.specs.Adopting.{LeavesMigrated, LeavesWhole, ShowsNone, WasNoBook}
 
 module _ {S : Type 0} (g : Ghosts S) where

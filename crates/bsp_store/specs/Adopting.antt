@@ -13,9 +13,9 @@ use Rattle.bsp_store_open.specs.Formed.{IsBook}
 use Rattle.bsp_store_open.specs.Opening.{IsAskedVersion, IsNoBook, KeepsOnly, Reopens}
 use Rattle.bsp_store_open.specs.Schema.{no_schema, our_schema}
 use Rattle.bsp_store_open.specs.declared.fault.OpenFault.{OpenFault}
-use Rattle.bsp_store_migration.specs.Migrating.{IsMigrationOf, KeepsOldBook, KeepsOnlyOld, ShowsNoOldBook}
-use Rattle.bsp_store_migration.specs.Old.{old_schema}
-use Rattle.bsp_store_migration.specs.declared.version.OldVersion.{OldVersion}
+use Rattle.bsp_store_open.specs.Migrating.{IsMigrationOf, KeepsOldBook, KeepsOnlyOld, ShowsNoOldBook}
+use Rattle.bsp_store_open.specs.Old.{old_schema}
+use Rattle.bsp_store_open.specs.declared.old_versions.OldVersion.{OldVersion}
 use Rattle.bsp_store.specs.Meanings.{Holds}
 use Rattle.bsp_store.specs.declared.book.SqlBook.{SqlBook}
 

@@ -18,9 +18,9 @@ use Rattle.bsp_store_open.specs.Faults.{fault_for, is_refusal}
 use Rattle.bsp_store_open.specs.Opening.{HasNoBook, IsAskedVersion, LeavesCommitted, Reopens}
 use Rattle.bsp_store_open.specs.declared.fault.OpenFault.{OpenFault}
 use Rattle.bsp_store_open.specs.declared.fault.OpenFault.TheVariants as opening
-use Rattle.bsp_store_migration.specs.Migrating.{IsEarlier}
-use Rattle.bsp_store_migration.specs.Old.{old_schema}
-use Rattle.bsp_store_migration.specs.declared.version.OldVersion.{OldVersion}
+use Rattle.bsp_store_open.specs.Migrating.{IsEarlier}
+use Rattle.bsp_store_open.specs.Old.{old_schema}
+use Rattle.bsp_store_open.specs.declared.old_versions.OldVersion.{OldVersion}
 use Rattle.bsp_store.specs.Files.{AnswersFiles}
 use Rattle.bsp_store.specs.declared.audit.AuditFault.{AuditFault}
 use Rattle.bsp_store.specs.declared.audit.AuditFault.TheVariants.{Damaged, OtherVersion, Failed}

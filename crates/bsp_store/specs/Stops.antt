@@ -10,8 +10,8 @@ use Rattle.bsp_rows.specs.Sound.{Sound}
 use Rattle.bsp_store_open.specs.Faults.{is_refusal}
 use Rattle.bsp_store_open.specs.Formed.{IsBook}
 use Rattle.bsp_store_open.specs.declared.fault.OpenFault.{OpenFault}
-use Rattle.bsp_store_migration.specs.Migrating.{IsOldBook}
-use Rattle.bsp_store_migration.specs.declared.version.OldVersion.{OldVersion}
+use Rattle.bsp_store_open.specs.Migrating.{IsOldBook}
+use Rattle.bsp_store_open.specs.declared.old_versions.OldVersion.{OldVersion}
 use Rattle.bsp_store.specs.Adopting.{LeavesWhole}
 use Rattle.bsp_store.specs.Meanings.{Holds, LeavesOne}
 use Rattle.bsp_store.specs.declared.book.SqlBook.{SqlBook}

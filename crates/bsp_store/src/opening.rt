@@ -11,9 +11,9 @@ ghost use Rattle.bsp_rows.specs.Rows.{no_rows};
 ghost use Rattle.bsp_store_open.specs.Schema.{no_schema};
 ghost use Rattle.bsp_store_open.specs.Faults.{fault_for, is_refusal};
 ghost use Rattle.bsp_store_open.specs.Opening.{AreAllInOrder, IsOrdered, LeavesCommitted, LeavesEmptyBook, Reopens, SparesStore};
-ghost use Rattle.bsp_store_migration.specs.Migrating.{IsOld, ShowsNoOldBook};
-ghost use Rattle.bsp_store_migration.specs.Old.{old_schema};
-ghost use Rattle.bsp_store_migration.specs.declared.version.OldVersion.{OldVersion};
+ghost use Rattle.bsp_store_open.specs.Migrating.{IsOld, ShowsNoOldBook};
+ghost use Rattle.bsp_store_open.specs.Old.{old_schema};
+ghost use Rattle.bsp_store_open.specs.declared.old_versions.OldVersion.{OldVersion};
 ghost use Rattle.bsp_store.specs.Meanings.{Holds};
 ghost use Rattle.bsp_store.specs.Adopting.{Adopts, IsFoundIn, IsMigratedIn, LeavesMigrated, LeavesWhole, ShowsNone, WasNoBook};
 ghost use Rattle.bsp_store.specs.Files.{AnswersFiles, FailsToOpen, FindsFiles, IsSpared};
@@ -23,9 +23,9 @@ use crate::book::SqlBook;
 use crate::logged::Logged;
 use crate::on_files::{OnFiles, on_files};
 use bsp_store_damage::{Damage, find_damage};
-use bsp_store_migration::{OldVersion, migrated_list, old_version};
 use bsp_store_open::{
-    OpenFault, again, empty_list, is_bare, is_ours, kept_list, open_ordered, refusal,
+    OldVersion, OpenFault, again, empty_list, is_bare, is_ours, kept_list, migrated_list,
+    old_version, open_ordered, refusal,
 };
 use bsp_store_save::make_book;
 use sqlite::{Alter, Connection, Error, ErrorCode, FileFrom, FileStore, Leftover, MemStore, Start};

@@ -1,7 +1,12 @@
 pub mod Faults
 pub mod Opening
 pub mod Loaded
+pub mod Old
+pub mod Filled
+pub mod Statements
+pub mod Migrating
 pub use Rattle.bsp_store_load.specs.Contents
 pub use Rattle.bsp_store_load.specs.Formed
 pub use Rattle.bsp_store_load.specs.Forms
 pub use Rattle.bsp_store_load.specs.Schema
+pub use Rattle.bsp_store_base.specs.Kept

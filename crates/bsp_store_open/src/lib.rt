@@ -1,4 +1,4 @@
-//! A store read as a book, before the book is opened.
+//! A store read as a book, before the book is opened, and a book of an earlier version migrated.
 //!
 //! [`kept_list`] reads all rows of a store and answers the book in memory that they keep, and [`empty_list`] does so in a
 //! new store. [`kept_tables`] answers the tables in memory, also in an open transaction, and [`expect_sound`] tests their
@@ -6,11 +6,21 @@
 //! further table into memory. [`open_ordered`] opens a connection of which the order of the rows is known, whichever
 //! tables it has, and [`again`] opens one again over its own store.
 //! [`OpenFault`] says why a store is refused.
+//!
+//! [`migrated_list`] adds the tables that an earlier version lacks, reads all rows as an opening does, and commits the
+//! whole where they are those of a sound book. [`old_version`] answers which version's tables a schema has, and
+//! [`old_refusal`] why they are no book of this version.
 #![tactic(auto)]
 
+mod adding;
 mod connections;
+mod ends;
 mod fault;
+mod filling;
 mod given;
+mod migrating;
+mod number;
+mod old_versions;
 mod opening;
 mod reading;
 mod tables;
@@ -23,6 +33,9 @@ pub use bsp_store_load::{
 };
 pub use connections::{again, open_ordered};
 pub use fault::OpenFault;
+pub use migrating::migrated_list;
+pub use number::old_refusal;
+pub use old_versions::{OldVersion, old_version};
 pub use opening::{empty_list, expect_sound, kept_list};
 pub use reading::{plan_rows, refusal, rows_of};
 pub use tables::{kept_tables, load_rows};

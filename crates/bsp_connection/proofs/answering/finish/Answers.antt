@@ -1,7 +1,7 @@
 use Rattle.std.proofs.Common.{ℕ, List, length, take, refl, sym, ap, ◌∙◌, subst, arith}
 use Rattle.std.specs.Option.{option_map}
 use Rattle.httparse.specs.Spans.{span_bytes}
-use Rattle.bsp_replies.specs.Replies.{reply_text}
+use Rattle.bsp_routes.specs.Replies.{reply_text}
 use Rattle.bsp_connection.proofs.StepLemmas.{answered_moves, unroomed_moves}
 use Rattle.bsp_connection.specs.Talks.{Moves}
 use Rattle.bsp_connection.proofs.answering.finish.Goals as goal

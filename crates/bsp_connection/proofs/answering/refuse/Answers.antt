@@ -1,5 +1,5 @@
 use Rattle.std.proofs.Common.{subst, true}
-use Rattle.bsp_replies.specs.Replies.{ReplyText}
+use Rattle.bsp_routes.specs.Replies.{ReplyText}
 use Rattle.bsp_heads.specs.Responses.{response}
 use Rattle.bsp_connection.proofs.StepLemmas.{refused_moves}
 use Rattle.bsp_connection.specs.Talks.{IsAnswered}

@@ -1,14 +1,14 @@
 use Rattle.std.proofs.Common.{◌≡◌, ◌+◌, List, [], ◌∷◌, ◌++◌, map, take, length, sym, ap, ◌∙◌, subst, arith, length-take}
 use Rattle.std.proofs.lemmas.List.{length-map, map_more}
 use Rattle.bsp_hot_check.specs.Records.{Record}
-use Rattle.bsp_hot_documents.specs.declared.rows.Row.{Row}
+use Rattle.bsp_hot.specs.declared.rows.Row.{Row}
 use Rattle.bsp_hot_check.specs.Hot.{Item, item_records, items_records}
 use Rattle.bsp_hot_check.proofs.Steps.{items_records_snoc}
-use Rattle.bsp_hot_documents.specs.Output.{Adds}
+use Rattle.bsp_hot.specs.Output.{Adds}
 use Rattle.bsp_hot_check.specs.FileForm.{FileForm}
-use Rattle.bsp_hot_documents.specs.Rows.{item_in}
-use Rattle.bsp_hot_documents.specs.Sorting.{row_item, written_item}
-use Rattle.bsp_hot_documents.proofs.OutputLemmas.{adds_then}
+use Rattle.bsp_hot.specs.Rows.{item_in}
+use Rattle.bsp_hot.specs.Sorting.{row_item, written_item}
+use Rattle.bsp_hot.proofs.OutputLemmas.{adds_then}
 use Rattle.bsp_hot.proofs.offices.push_documents.Goals as goal
 
 pub loop-index-preserved : goal.loop-index-preserved

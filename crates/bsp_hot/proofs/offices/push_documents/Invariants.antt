@@ -1,7 +1,7 @@
 use Rattle.std.proofs.Common.{map, take}
 use Rattle.bsp_hot_check.specs.Hot.{items_records}
-use Rattle.bsp_hot_documents.specs.Output.{Adds}
-use Rattle.bsp_hot_documents.specs.Sorting.{written_item}
+use Rattle.bsp_hot.specs.Output.{Adds}
+use Rattle.bsp_hot.specs.Sorting.{written_item}
 use Rattle.bsp_hot.proofs.offices.push_documents.Given as goal
 
 abbrev pub invariant-loop-index : goal.invariant-loop-index

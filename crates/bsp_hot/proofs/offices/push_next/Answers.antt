@@ -6,13 +6,13 @@ use Rattle.std.proofs.lemmas.Result.{err_from_is_err_and}
 use Rattle.bsp_hot_check.specs.Records.{Record}
 use Rattle.bsp_hot_check.specs.Sums.{add}
 use Rattle.bsp_hot.specs.declared.offices.Offices.{Offices}
-use Rattle.bsp_hot_documents.specs.declared.rows.Row.{Row}
+use Rattle.bsp_hot.specs.declared.rows.Row.{Row}
 use Rattle.bsp_hot_check.specs.FileForm.{FileForm}
 use Rattle.bsp_hot_check.specs.Hot.{office_records, items_sums}
-use Rattle.bsp_hot_documents.specs.Lines.{record_fits}
-use Rattle.bsp_hot_documents.specs.Output.{Adds, IsFaultOf}
-use Rattle.bsp_hot_documents.specs.Sorting.{entry_of, written_item, IsRow}
-use Rattle.bsp_hot_documents.specs.Runs.{IsRun}
+use Rattle.bsp_hot.specs.Lines.{record_fits}
+use Rattle.bsp_hot.specs.Output.{Adds, IsFaultOf}
+use Rattle.bsp_hot.specs.Sorting.{entry_of, written_item, IsRow}
+use Rattle.bsp_hot.specs.Runs.{IsRun}
 use Rattle.bsp_hot.specs.OfficesSoFar.{heading_of, HaveRoom, HaveOffices}
 use Rattle.bsp_hot.proofs.NextOffice.{office_over, office_more, office_fault, room_more}
 use Rattle.bsp_hot.proofs.offices.push_next.Goals as goal

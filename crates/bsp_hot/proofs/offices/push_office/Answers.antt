@@ -2,17 +2,17 @@ use Rattle.std.proofs.Common.{◌≡◌, ◌+◌, true, List, [], ◌∷◌, ◌
 use Rattle.std.specs.List.{list_all}
 use Rattle.std.proofs.lemmas.List.{length-map}
 use Rattle.std.proofs.lemmas.Result.{err_from_is_err_and}
-use Rattle.bsp_hot_documents.specs.declared.fault.HotFault.TheVariants.{TooWide}
+use Rattle.bsp_hot.specs.declared.fault.HotFault.TheVariants.{TooWide}
 use Rattle.bsp_hot_check.specs.Records.{Record, office_header}
 use Rattle.bsp_hot_check.specs.Hot.{items_records, closing_records}
 use Rattle.bsp_hot_check.specs.FileForm.{FileForm}
 use Rattle.bsp_hot_check.specs.Hot.{Item}
-use Rattle.bsp_hot_documents.specs.declared.rows.Row.{Row}
-use Rattle.bsp_hot_documents.specs.Lines.{record_fits}
-use Rattle.bsp_hot_documents.specs.Output.{Adds, IsFaultOf}
-use Rattle.bsp_hot_documents.specs.Sorting.{written_item}
-use Rattle.bsp_hot_documents.proofs.OutputLemmas.{adds_then}
-use Rattle.bsp_hot_documents.proofs.FaultLemmas.{fault_before, fault_behind, both_fit}
+use Rattle.bsp_hot.specs.declared.rows.Row.{Row}
+use Rattle.bsp_hot.specs.Lines.{record_fits}
+use Rattle.bsp_hot.specs.Output.{Adds, IsFaultOf}
+use Rattle.bsp_hot.specs.Sorting.{written_item}
+use Rattle.bsp_hot.proofs.OutputLemmas.{adds_then}
+use Rattle.bsp_hot.proofs.FaultLemmas.{fault_before, fault_behind, both_fit}
 use Rattle.bsp_hot.proofs.OfficesLemmas.{items_fit, items_wide}
 use Rattle.bsp_hot.proofs.offices.push_office.Goals as goal
 

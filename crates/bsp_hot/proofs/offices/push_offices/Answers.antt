@@ -1,7 +1,7 @@
 use Rattle.std.proofs.Common.{◌≡◌, ℕ, ◌-◌, List, take, drop, length, sym, ap, ◌∙◌, subst, arith, length-drop}
 use Rattle.std.proofs.lemmas.List.{drop-drop, take_all}
 use Rattle.std.proofs.lemmas.Result.{err_from_is_err_and}
-use Rattle.bsp_hot_documents.specs.declared.rows.Row.{Row}
+use Rattle.bsp_hot.specs.declared.rows.Row.{Row}
 use Rattle.bsp_hot.specs.OfficesSoFar.{heading_of, HaveRoom, HaveOffices}
 use Rattle.bsp_hot.proofs.offices.push_offices.Goals as goal
 

@@ -1,5 +1,5 @@
 use Rattle.std.proofs.Common.{drop, length, ◌-◌}
-use Rattle.bsp_hot_documents.specs.Output.{IsOutput}
+use Rattle.bsp_hot.specs.Output.{IsOutput}
 use Rattle.bsp_hot.specs.OfficesSoFar.{heading_of, HaveRoom, HaveOffices}
 use Rattle.bsp_hot.proofs.offices.push_offices.Given as goal
 

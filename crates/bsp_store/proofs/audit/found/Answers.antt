@@ -7,7 +7,7 @@ use Rattle.bsp_store_save.specs.MemoryRowsTables.{rows_of}
 use Rattle.bsp_store_open.specs.Opening.{IsOrdered, IsRead}
 use Rattle.bsp_store_open.proofs.OpeningLemmas.{if_err}
 use Rattle.bsp_store.specs.Auditing.{HasNone, IsFound}
-use Rattle.bsp_store_migration.proofs.VersionLemmas.{old_not_ours}
+use Rattle.bsp_store_open.proofs.VersionLemmas.{old_not_ours}
 use Rattle.bsp_store.proofs.AuditingLemmas.{answered_err, answered_ok, found_rows}
 use Rattle.bsp_store.proofs.audit.found.Goals as goal
 

@@ -1,6 +1,6 @@
 use Rattle.std.proofs.Common.{subst, sym, ◌∙◌}
-use Rattle.bsp_store_migration.specs.Migrating.{IsEarlier}
-use Rattle.bsp_store_migration.proofs.VersionLemmas.{one_old}
+use Rattle.bsp_store_open.specs.Migrating.{IsEarlier}
+use Rattle.bsp_store_open.proofs.VersionLemmas.{one_old}
 use Rattle.sqlite.specs.Held.{state}
 use Rattle.bsp_store.proofs.audit.other_refusal.Goals as goal
 

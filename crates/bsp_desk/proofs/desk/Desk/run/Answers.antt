@@ -1,7 +1,7 @@
 use Rattle.std.proofs.Common.{rules, ◌≡◌, refl, ◌++◌, ◌∷◌, [], ◌<◌, ◌+◌, ℕ, List, None, arith, ap, subst, sym, take, vec_capacity, vec_len, ◌∙◌}
 use Rattle.std.proofs.lemmas.Grind.{common_steps}
 use Rattle.std.proofs.lemmas.List.{take_all, take_more}
-use Rattle.bsp_replies.specs.declared.reply.Reply.{Reply}
+use Rattle.bsp_routes.specs.declared.reply.Reply.{Reply}
 use Rattle.bsp_desk_writes.specs.Requests.{Request as Reading}
 use Rattle.bsp_desk.specs.Reading.{AreRead}
 use Rattle.bsp_desk.specs.Runs.{AreAnswered, RunReplied}

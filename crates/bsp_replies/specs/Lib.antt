@@ -1,2 +1,0 @@
--- What the contracts of replies cite.
-pub mod Replies
