@@ -1,3 +1,2 @@
 -- Why the bodies meet their contracts.
 pub mod ListLemmas
-pub mod TextLemmas

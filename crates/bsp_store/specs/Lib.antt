@@ -1,5 +1,3 @@
-pub mod Keeping
-pub mod Lending
 pub mod Meanings
 pub mod Openings
 pub mod Adopting
