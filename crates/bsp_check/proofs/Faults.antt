@@ -1,7 +1,6 @@
 -- Results that differ, and the fault that one has.
-use Rattle.std.proofs.Common.{◌≡◌, ◌⊎◌, ◌∙◌, Bool, true, false, inl, inr, refl, sym, ap, subst}
+use Rattle.std.proofs.Common.{◌≡◌, ◌⊎◌, ◌∙◌, Bool, true, false, inl, inr, sym, ap, subst}
 use Rattle.std.specs.Prelude.{Result, Ok, Err}
-use Rattle.std.specs.Result.{IsErrAnd}
 use Rattle.bsp_check.specs.declared.fault.Fault.{Fault}
 use Rattle.bsp_check.specs.declared.fault.Fault.TheVariants.{Read, TooLong, Write, Memory}
 
@@ -53,11 +52,6 @@ not_long r fault is holds other = subst IsNotLong (same_fault r fault TooLong is
 
 pub not_write : {T : Type 0} (r : Result T Fault) (fault : Fault) → r ≡ Err fault → IsNotWrite fault → r ≡ Err Write → ⊥
 not_write r fault is holds other = subst IsNotWrite (same_fault r fault Write is other) holds
-
--- a fault that was passed on
-pub passed_fault : {T : Type 0} (r : Result T Fault) (fault other : Fault) → IsErrAnd r (λ f. f ≡ fault) → r ≡ Err other → fault ≡ other
-passed_fault (Ok x) fault other is h = absurd is
-passed_fault (Err told) fault other is h = sym is ∙ same_fault (Err told) told other refl h
 
 -- a piece that was not read has one of two faults
 pub piece_not_long : (fault : Fault) (piece : Result Bool Fault) → piece ≡ Err fault → (piece ≡ Err Read) ⊎ (piece ≡ Err Memory) → IsNotLong fault

@@ -80,9 +80,6 @@ nothing_more text more first none is =
     let Line : List ℕ → Type 0 = λ xs. IsLine 0 (lines xs) first in
     subst Line (ap (λ xs. text ++ xs) none ∙ append-nil text) is
 
-pub ended_line_known : (text more first : List ℕ) (ended : Bool) → ended ≡ true → (ended ≡ true → more ≡ []) → IsLine 0 (lines (text ++ more)) first → IsLine 0 (lines text) first
-ended_line_known text more first ended is follows line = nothing_more text more first (follows is) line
-
 -- ---- a line that is longer than a window
 
 -- bytes without an end are before the window, whose first byte is none

@@ -1,9 +1,7 @@
 -- Lemmas on reports that are sent.
 use Rattle.std.proofs.Common.{◌≡◌, ◌≤◌, ◌⊎◌, ℕ, List, length, inl, inr, refl, subst, sym, arith}
-use Rattle.std.specs.Prelude.{◌+◌, Option, Result, Ok, Err, IfOk}
-use Rattle.std.specs.Result.{IsErrAnd}
-use Rattle.std.specs.Io.KnownBytes.{IsAtEnd, Appends, Consumes}
-use Rattle.std.proofs.KnownBytes.{Keeps-refl}
+use Rattle.std.specs.Prelude.{Option, Result, Ok, Err, IfOk}
+use Rattle.std.specs.Io.KnownBytes.{IsAtEnd, Appends}
 use Rattle.bsp_check.specs.declared.fault.Fault.{Fault}
 use Rattle.bsp_check.specs.declared.fault.Fault.TheVariants.{Read, TooLong, Write, Memory}
 use Rattle.bsp_check.specs.declared.verdict.Verdict.{Verdict}
@@ -21,24 +19,6 @@ sent_reported Reports limit bytes text verdict rest before after (Err Write) end
 sent_reported Reports limit bytes text verdict rest before after (Err Read) end within is sent = absurd sent
 sent_reported Reports limit bytes text verdict rest before after (Err TooLong) end within is sent = absurd sent
 sent_reported Reports limit bytes text verdict rest before after (Err Memory) end within is sent = absurd sent
-
--- no report is sent with a fault of reading
-pub sent_not_read : (verdict : Verdict) (text : List ℕ) (before after : Option (List ℕ)) (r : Result Verdict Fault) → IsSent verdict text before after r → r ≡ Err Read → ⊥
-sent_not_read verdict text before after (Ok told) sent read = cc
-sent_not_read verdict text before after (Err Write) sent read = cc
-sent_not_read verdict text before after (Err Read) sent read = sent
-sent_not_read verdict text before after (Err TooLong) sent read = sent
-sent_not_read verdict text before after (Err Memory) sent read = sent
-
--- the fault of an input that was not read whole is passed on, and nothing was written
-pub unread_reported : (Reports : List ℕ → ℕ → List ℕ → Type 0) (Explained : List ℕ → Verdict → Type 0) (limit : ℕ) (input rest written : Option (List ℕ)) (fault : Fault) (r : Result Verdict Fault) → IsErrAnd r (λ f. f ≡ fault) → ((x : List ℕ) × Consumes input rest x × (length x ≤ limit + 1)) → (fault ≡ Write → ⊥) → (fault ≡ TooLong → (x : List ℕ) × Consumes input rest x × (length x ≡ limit + 1)) → (x : List ℕ) × Consumes input rest x × (length x ≤ limit + 1) × IsReported Reports limit x rest written written r × IfOk r (Explained x)
-unread_reported Reports Explained limit input rest written fault (Ok verdict) is stopped never long = absurd is
-unread_reported Reports Explained limit input rest written fault (Err Read) is stopped never long = (stopped.0, stopped.1, stopped.2, Keeps-refl written, tt)
-unread_reported Reports Explained limit input rest written fault (Err Memory) is stopped never long = (stopped.0, stopped.1, stopped.2, Keeps-refl written, tt)
-unread_reported Reports Explained limit input rest written fault (Err Write) is stopped never long = absurd (never (sym is))
-unread_reported Reports Explained limit input rest written fault (Err TooLong) is stopped never long =
-    let over = long (sym is) in
-    let few : length over.0 ≤ limit + 1 = omega (arith, over.2) in (over.0, over.1, few, (over.2, Keeps-refl written), tt)
 
 -- the verdict that was answered is that of the report
 pub sent_explained : (Explained : List ℕ → Verdict → Type 0) (bytes text : List ℕ) (verdict : Verdict) (before after : Option (List ℕ)) (r : Result Verdict Fault) → Explained bytes verdict → IsSent verdict text before after r → IfOk r (Explained bytes)

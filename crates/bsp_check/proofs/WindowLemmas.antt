@@ -6,10 +6,10 @@ use Rattle.std.proofs.lemmas.List.Edits.{take-paste}
 use Rattle.std.proofs.Math.Seq.{take-append-add, take-append_seam, paste}
 use Rattle.std.specs.List.{copy_within}
 use Rattle.std.specs.Prelude.{Result, Ok, Err, OnOk}
-use Rattle.std.specs.Io.KnownBytes.{Consumes, IsAtEnd, Keeps}
-use Rattle.std.proofs.KnownBytes.{Consumes-nil, Consumes-trans, Consumes-kept}
+use Rattle.std.specs.Io.KnownBytes.{Consumes, IsAtEnd}
+use Rattle.std.proofs.KnownBytes.{Consumes-nil, Consumes-trans}
 use Rattle.bsp_check.specs.declared.fault.Fault.{Fault}
-use Rattle.bsp_check.specs.declared.fault.Fault.TheVariants.{Read, TooLong, Memory}
+use Rattle.bsp_check.specs.declared.fault.Fault.TheVariants.{TooLong, Memory}
 use Rattle.bsp_check.specs.declared.window.Window.{Window}
 use Rattle.bsp_check.proofs.Faults.{IsNotLong, IsNotWrite}
 use Rattle.bsp_check.specs.Windows.{room, text_of, last_of, IsWindow, Reads, Fills, Drains, Stops}
@@ -89,24 +89,6 @@ too_long text old mid a b reads none = record {
   long = λ is. omega (arith, reads.left, none);
 }
 
-pub read_fails : (text : List ℕ) (old mid : Window) (a b c : Option (List ℕ)) (fault : Fault) → Reads text old mid a b → Keeps b c → fault ≡ Read → Stops old.left fault a c
-read_fails text old mid a b c fault reads kept is = record {
-  got = reads.got;
-  taken = Consumes-kept a b c reads.got reads.taken kept;
-  within = omega (arith, reads.left);
-  not_write = λ write. subst IsNotWrite (sym is ∙ write) tt;
-  long = λ long. absurd (subst IsNotLong (sym is ∙ long) tt);
-}
-
-pub filled_full : (text : List ℕ) (old new : Window) (a b : Option (List ℕ)) → Reads text old new a b → room ≤ new.filled → Fills text old new a b
-filled_full text old new a b reads full = record {
-  reads = reads;
-  full = λ goes. length-take-le new.filled new.room.items (omega (arith, reads.window.filled, reads.window.wide)) ∙ (omega (arith, full, reads.window.filled));
-}
-
-pub filled_ended : (text : List ℕ) (old new : Window) (a b : Option (List ℕ)) → Reads text old new a b → new.ended ≡ true → Fills text old new a b
-filled_ended text old new a b reads ended = record { reads = reads; full = λ goes. absurd (false≢true (sym goes ∙ ended)) }
-
 -- ---- the last bytes are kept
 
 pub last_kept : (items : List ℕ) (filled kept : ℕ) → filled ≤ length items → kept ≤ filled → last_of kept (take filled items) ≡ take kept (drop (filled - kept) items)
@@ -154,9 +136,6 @@ pub record Draining (old now : Window) (before after : Option (List ℕ)) : Type
   pub window : IsWindow now
   pub at_end : now.ended ≡ true → IsAtEnd after
   pub stays : old.ended ≡ true → (got ≡ []) × (now.ended ≡ true)
-
-pub draining_none : (w : Window) (a : Option (List ℕ)) → IsWindow w → (w.ended ≡ true → IsAtEnd a) → Draining w w a a
-draining_none w a window end = record { got = []; taken = Consumes-nil a; left = omega arith; window = window; at_end = end; stays = λ ended. (refl, ended) }
 
 pub draining_more : (rest : List ℕ) (old mid new : Window) (a b c : Option (List ℕ)) → Draining old mid a b → Fills rest mid new b c → Draining old new a c
 draining_more rest old mid new a b c first fills =

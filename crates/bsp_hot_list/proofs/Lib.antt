@@ -1,2 +1,3 @@
 -- Why the bodies meet their contracts.
 pub mod ListLemmas
+pub mod TextLemmas

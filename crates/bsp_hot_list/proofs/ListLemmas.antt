@@ -2,23 +2,24 @@
 use Rattle.std.proofs.Common.{◌≡◌, ℕ, ◌+◌, ◌≤◌, ◌<◌, ◌^◌, List, [], ◌∷◌, ◌++◌, length, Option, Some, None, refl, sym, ap, ap₂, subst, ◌∙◌, arith, append_assoc, append-nil, map}
 use Rattle.std.proofs.lemmas.List.{length-append}
 use Rattle.std.proofs.lemmas.Option.{none-some, same_Some}
-use Rattle.std.specs.Prelude.{IfSome, OnOk, Result, Ok, Err}
+use Rattle.std.specs.Prelude.{codes, IfSome, OnOk, Result, Ok, Err}
+use Rattle.bsp_fields.specs.Money.{money_text}
 use Rattle.bsp_fields.specs.declared.money.NoRoom.{NoRoom}
-use Rattle.std.specs.List.{concat}
 use Rattle.bsp_hot_records.specs.declared.form.FileForm.{FileForm}
 use Rattle.bsp_hot_records.specs.declared.totals.Sums.{Sums}
+use Rattle.bsp_hot_records.specs.declared.totals.Totals.{Totals}
 use Rattle.bsp_hot_records.specs.declared.model.Part.{Part}
 use Rattle.bsp_hot_records.specs.declared.model.PartOf.{PartOf}
 use Rattle.bsp_hot_records.specs.declared.model.Record.{Record}
 use Rattle.bsp_hot_records.specs.declared.model.Record.TheVariants as record_is
 use Rattle.bsp_hot_records.specs.Judged.{IsSmallRecord}
 use Rattle.bsp_hot_records.specs.Reading.{judged_at}
-use Rattle.bsp_hot_records.specs.Sums.{AreSmall, add, one_document, sum_of, with_net}
+use Rattle.bsp_hot_records.specs.Sums.{add, one_document, sum_of, with_net}
 use Rattle.bsp_hot_records.proofs.SumLemmas.{none_right, plus_assoc}
 use Rattle.bsp_hot_records.proofs.SizeLemmas.{one_small, small_add, small_more}
 use Rattle.bsp_hot_check.specs.Standings.{judged_sums}
 use Rattle.bsp_hot_check.proofs.SizeLemmas.{small_part}
-use Rattle.bsp_hot_list.specs.Listed.{amounts_text, document_key, document_sums, document_text, form_after, issued_text, list_from, list_text, listed, listed_or, part_before, part_said, parts_in}
+use Rattle.bsp_hot_list.specs.Listed.{amounts_text, charges_text, document_key, document_sums, form_after, issued_text, list_from, list_text, listed, listed_or, part_before, part_said, parts_in, payments_text}
 use Rattle.bsp_hot_list.specs.Taken.{IsListOf, IsOtherTaken, IsSmallStage, begun, ended, left, stage_after, stage_with}
 use Rattle.bsp_hot_list.specs.declared.list.HotList.{HotList}
 use Rattle.bsp_hot_list.specs.declared.list.Stage.{Stage}
@@ -40,11 +41,22 @@ pub parts_more : (form : FileForm) (n : ℕ) (line : List ℕ) (lines : List (Li
 unfolding parts_in
 parts_more form n line lines = refl
 
-pub joined_five : (old a b c d e : List ℕ) → ((((old ++ a) ++ b) ++ c) ++ d) ++ e ≡ old ++ concat (a ∷ b ∷ c ∷ d ∷ e ∷ [])
-joined_five old a b c d e = simp (append_assoc, append-nil) refl
+-- five names, each with its amount, and an end, one behind another
+joined : (old a b c d e k l m n o z : List ℕ) → (((((old ++ (a ++ k)) ++ (b ++ l)) ++ (c ++ m)) ++ (d ++ n)) ++ (e ++ o)) ++ (z ++ []) ≡ old ++ ((a ++ (k ++ (b ++ l))) ++ ((c ++ (m ++ (d ++ n))) ++ (e ++ (o ++ z))))
+joined old a b c d e k l m n o z = simp (append_assoc, append-nil)
 
-pub joined_six : (old a b c d e f : List ℕ) → (((((old ++ a) ++ b) ++ c) ++ d) ++ e) ++ f ≡ old ++ concat (a ∷ b ∷ c ∷ d ∷ e ∷ f ∷ [])
-joined_six old a b c d e f = simp (append_assoc, append-nil) refl
+-- the amounts of a line, one behind another
+pub amounts_are : (t : Totals) (old a b c d e now : List ℕ)
+    → a ≡ old ++ (codes " CA " ++ money_text t.sums.cash)
+    → b ≡ a ++ (codes " CC " ++ money_text t.sums.credit)
+    → c ≡ b ++ (codes " commission " ++ money_text t.sums.commission)
+    → d ≡ c ++ (codes " tax " ++ money_text t.sums.tax)
+    → e ≡ d ++ (codes " net " ++ money_text t.net)
+    → now ≡ e ++ (codes "\n" ++ [])
+    → now ≡ old ++ amounts_text t
+unfolding amounts_text payments_text charges_text
+amounts_are t old a b c d e now cash credit commission tax net last =
+    rw (last, net, tax, commission, credit, cash) (joined old (codes " CA ") (codes " CC ") (codes " commission ") (codes " tax ") (codes " net ") (money_text t.sums.cash) (money_text t.sums.credit) (money_text t.sums.commission) (money_text t.sums.tax) (money_text t.net) (codes "\n"))
 
 -- ---- what follows a record
 

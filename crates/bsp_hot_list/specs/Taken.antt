@@ -1,7 +1,6 @@
 -- The list of the lines of a HOT file that were taken, while more may come.
-use Rattle.std.specs.Prelude.{◌≡◌, ◌≤◌, ◌<◌, ◌+◌, ◌^◌, ℕ, List, [], ◌∷◌, ◌++◌, length, map, Option, Some, None}
+use Rattle.std.specs.Prelude.{◌≡◌, ◌≤◌, ◌<◌, ◌+◌, ◌^◌, ℕ, List, [], ◌++◌, length, map, Option, Some, None}
 use Rattle.bsp_hot_records.specs.declared.form.FileForm.{FileForm}
-use Rattle.bsp_hot_records.specs.declared.totals.Sums.{Sums}
 use Rattle.bsp_hot_records.specs.declared.model.Record.{Record}
 use Rattle.bsp_hot_records.specs.declared.model.Record.TheVariants as record_is
 use Rattle.bsp_hot_records.specs.Sums.{AreSmall, add, no_sums, one_document, sum_of, with_net}

@@ -1,113 +1,84 @@
 //! The lines of the list.
 
-ghost use Rattle.std.specs.Prelude.{◌≡◌, ◌++◌, IfOk, OnOk, codes, length, string_bytes};
+ghost use Rattle.std.specs.Prelude.{◌≡◌, ◌++◌, OnOk, codes, length};
+ghost use Rattle.std.specs.List.{flat_map};
 ghost use Rattle.bsp_fields.specs.Decimal.{fixed_digits};
-ghost use Rattle.bsp_hot_list.specs.Listed.{amounts_text, charges_text, document_key, heading_text, issued_text, payments_text, totals_text};
+ghost use Rattle.bsp_fields.specs.Money.{money_text};
+ghost use Rattle.bsp_hot_list.specs.Listed.{amounts_text, document_key, heading_text, issued_text, totals_text};
 
 use bsp_fields::{NoRoom, write_digits, write_money};
-use bsp_hot_records::{AgentDigits, Document, Heading, Sums, Totals};
-use std::alloc::{AllocError, Global};
+use bsp_hot_records::{AgentDigits, Document, Heading, Totals};
+use std::alloc::Global;
 
-/// Cash and credit.
-#[tactic(auto, unfolding(crate::specs::Listed::payments_text))]
-fn payments_text(alloc: Global, sums: Sums) -> Result<String, NoRoom>
-    ensures { IfOk result (λ text. string_bytes text ≡ payments_text sums) }
+/// Appends some texts, one after another.
+fn push_all(out: &mut Vec<u8>, texts: &[&[u8]]) -> Result<(), NoRoom>
+    ensures { OnOk result (out.new.items ≡ out.old.items ++ flat_map (λ text. text.now) texts.now) }
 {
-    let Sums { cash, credit, .. } = sums;
-    let cash = write_money(alloc, cash)?;
-    let credit = write_money(alloc, credit)?;
-    Ok(format!(in alloc; " CA {cash} CC {credit}")?)
-}
-
-/// The commission and the tax on it.
-#[tactic(auto, unfolding(crate::specs::Listed::charges_text))]
-fn charges_text(alloc: Global, sums: Sums) -> Result<String, NoRoom>
-    ensures { IfOk result (λ text. string_bytes text ≡ charges_text sums) }
-{
-    let Sums {
-        commission,
-        tax,
-        ..
-    } = sums;
-    let commission = write_money(alloc, commission)?;
-    let tax = write_money(alloc, tax)?;
-    Ok(format!(in alloc; " commission {commission} tax {tax}")?)
-}
-
-/// Cash, credit, commission, tax on commission and net, and the end of the line.
-#[tactic(auto, unfolding(crate::specs::Listed::amounts_text))]
-fn amounts_text(alloc: Global, totals: Totals) -> Result<String, NoRoom>
-    ensures { IfOk result (λ text. string_bytes text ≡ amounts_text totals) }
-{
-    let Totals { sums, net } = totals;
-    let payments = payments_text(alloc, sums)?;
-    let charges = charges_text(alloc, sums)?;
-    let net = write_money(alloc, net)?;
-    Ok(format!(in alloc; "{payments}{charges} net {net}\n")?)
-}
-
-/// The number of documents, and their amounts.
-#[tactic(auto, unfolding(crate::specs::Listed::totals_text))]
-fn totals_text(alloc: Global, totals: Totals) -> Result<String, NoRoom>
-    ensures { IfOk result (λ text. string_bytes text ≡ totals_text totals) }
-{
-    let documents = totals.sums.documents;
-    let amounts = amounts_text(alloc, totals)?;
-    Ok(format!(in alloc; " documents {documents}{amounts}")?)
-}
-
-/// Appends totals.
-fn push_totals(alloc: Global, out: &mut Vec<u8>, totals: Totals) -> Result<(), NoRoom>
-    ensures { OnOk result (out.new.items ≡ out.old.items ++ totals_text totals) }
-{
-    let text = totals_text(alloc, totals)?;
-    out.extend_from_slice(text.as_bytes())?;
+    for text in texts {
+        out.extend_from_slice(text)?;
+    }
     Ok(())
 }
 
-/// Appends the amounts of a document, with which its line ends.
+/// Appends a name and an amount.
+fn push_named(alloc: Global, out: &mut Vec<u8>, name: &[u8], amount: i128) -> Result<(), NoRoom>
+    ensures { OnOk result (out.new.items ≡ out.old.items ++ (name.now ++ money_text amount)) }
+{
+    let amount = write_money(alloc, amount)?;
+    push_all(out, &[name, amount.as_bytes()])
+}
+
+/// Appends cash, credit, commission, tax on commission and net, and the end of the line.
 pub(crate) fn push_amounts(alloc: Global, out: &mut Vec<u8>, totals: Totals) -> Result<(), NoRoom>
     ensures { OnOk result (out.new.items ≡ out.old.items ++ amounts_text totals) }
 {
-    let text = amounts_text(alloc, totals)?;
-    out.extend_from_slice(text.as_bytes())?;
-    Ok(())
+    let Totals { sums, net } = totals;
+    push_named(alloc, out, b" CA ", sums.cash)?;
+    push_named(alloc, out, b" CC ", sums.credit)?;
+    push_named(alloc, out, b" commission ", sums.commission)?;
+    push_named(alloc, out, b" tax ", sums.tax)?;
+    push_named(alloc, out, b" net ", net)?;
+    push_all(out, &[b"\n"])
+}
+
+/// Appends a name, the number of documents, and their amounts.
+fn push_totals(alloc: Global, out: &mut Vec<u8>, name: &[u8], totals: Totals) -> Result<(), NoRoom>
+    ensures { OnOk result (out.new.items ≡ out.old.items ++ (name.now ++ totals_text totals)) }
+{
+    let documents = format!(in alloc; " documents {}", totals.sums.documents)?;
+    push_all(out, &[name, documents.as_bytes()])?;
+    push_amounts(alloc, out, totals)
 }
 
 /// Appends the agent, the code and the number of a document.
-#[tactic(auto, unfolding(crate::specs::Listed::document_key))]
-fn push_key(out: &mut Vec<u8>, document: &Document) -> Result<(), AllocError>
+fn push_key(out: &mut Vec<u8>, document: &Document) -> Result<(), NoRoom>
     ensures { OnOk result (out.new.items ≡ out.old.items ++ document_key document.now) }
 {
-    out.extend_from_slice(&write_digits::<8>(document.agent.number() as u64))?;
-    out.extend_from_slice(b" ")?;
-    out.extend_from_slice(&document.code.text())?;
-    out.extend_from_slice(b" ")?;
-    out.extend_from_slice(&document.number.digits())?;
-    Ok(())
+    let agent = write_digits::<8>(document.agent.number() as u64);
+    let code = document.code.text();
+    let number = document.number.digits();
+    push_all(out, &[&agent, b" ", &code, b" ", &number])
 }
 
 /// Appends the day of issue of BKS24.
 #[tactic(auto, unfolding(crate::specs::Listed::issued_text))]
-fn push_issued(out: &mut Vec<u8>, line: &[u8]) -> Result<(), AllocError>
+fn push_issued(out: &mut Vec<u8>, line: &[u8]) -> Result<(), NoRoom>
     requires { length line.now ≡ 136 }
     ensures { OnOk result (out.new.items ≡ out.old.items ++ issued_text line.now) }
 {
-    out.extend_from_slice(b" 20")?;
-    out.extend_from_slice(&line[21..23])?;
-    out.extend_from_slice(b"-")?;
-    out.extend_from_slice(&line[23..25])?;
-    out.extend_from_slice(b"-")?;
-    out.extend_from_slice(&line[25..27])?;
-    Ok(())
+    let day = &[
+        b" 20",
+        &line[21..23],
+        b"-",
+        &line[23..25],
+        b"-",
+        &line[25..27],
+    ];
+    push_all(out, day)
 }
 
 /// Appends what BKS24 gives the line of a document: the agent, the code, the number and the day of issue.
-pub(crate) fn push_begun(
-    out: &mut Vec<u8>,
-    document: &Document,
-    line: &[u8],
-) -> Result<(), AllocError>
+pub(crate) fn push_begun(out: &mut Vec<u8>, document: &Document, line: &[u8]) -> Result<(), NoRoom>
     requires { length line.now ≡ 136 }
     ensures { OnOk result (out.new.items ≡ out.old.items ++ (document_key document.now ++ issued_text line.now)) }
 {
@@ -116,16 +87,12 @@ pub(crate) fn push_begun(
 }
 
 /// Appends the line of the airline and the period.
-#[tactic(auto, unfolding(crate::specs::Listed::heading_text))]
-pub(crate) fn push_heading(out: &mut Vec<u8>, heading: &Heading) -> Result<(), AllocError>
+pub(crate) fn push_heading(out: &mut Vec<u8>, heading: &Heading) -> Result<(), NoRoom>
     ensures { OnOk result (out.new.items ≡ out.old.items ++ heading_text heading.now) }
 {
-    out.extend_from_slice(b"airline ")?;
-    out.extend_from_slice(&heading.airline.digits())?;
-    out.extend_from_slice(b" period ")?;
-    out.extend_from_slice(&heading.period.digits())?;
-    out.extend_from_slice(b"\n")?;
-    Ok(())
+    let airline = heading.airline.digits();
+    let period = heading.period.digits();
+    push_all(out, &[b"airline ", &airline, b" period ", &period, b"\n"])
 }
 
 /// Appends the line of an agent.
@@ -137,14 +104,13 @@ pub(crate) fn push_agent(
 ) -> Result<(), NoRoom>
     ensures { OnOk result (out.new.items ≡ out.old.items ++ (fixed_digits 8 agent ++ totals_text totals)) }
 {
-    out.extend_from_slice(&write_digits::<8>(agent.number() as u64))?;
-    push_totals(alloc, out, totals)
+    let agent = write_digits::<8>(agent.number() as u64);
+    push_totals(alloc, out, &agent, totals)
 }
 
 /// Appends the line of the file.
 pub(crate) fn push_file(alloc: Global, out: &mut Vec<u8>, totals: Totals) -> Result<(), NoRoom>
     ensures { OnOk result (out.new.items ≡ out.old.items ++ (codes "total" ++ totals_text totals)) }
 {
-    out.extend_from_slice(b"total")?;
-    push_totals(alloc, out, totals)
+    push_totals(alloc, out, b"total", totals)
 }

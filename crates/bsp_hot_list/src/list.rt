@@ -76,7 +76,7 @@ impl HotList {
     {
         if let Stage::Document(sums) = self.stage {
             let net = sums.net();
-            push_amounts(self.alloc, &mut self.text, Totals { sums, net })?;
+            return push_amounts(self.alloc, &mut self.text, Totals { sums, net });
         }
         Ok(())
     }
@@ -93,19 +93,18 @@ impl HotList {
         match found {
             Record::FileHeader(heading) => {
                 self.form = heading.form;
-                push_heading(&mut self.text, heading)?;
+                push_heading(&mut self.text, heading)
             }
             Record::Document(document) => {
                 self.stage = Stage::Document(Sums::DOCUMENT);
-                push_begun(&mut self.text, document, line)?;
+                push_begun(&mut self.text, document, line)
             }
             Record::OfficeTotals(office) => {
-                push_agent(self.alloc, &mut self.text, office.agent, office.totals)?;
+                push_agent(self.alloc, &mut self.text, office.agent, office.totals)
             }
-            Record::FileTotals(file) => push_file(self.alloc, &mut self.text, file.totals)?,
-            _ => {}
+            Record::FileTotals(file) => push_file(self.alloc, &mut self.text, file.totals),
+            _ => Ok(()),
         }
-        Ok(())
     }
 
     /// Adds a line that is no part of the document whose records came.

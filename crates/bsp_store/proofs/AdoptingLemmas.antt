@@ -18,12 +18,11 @@ use Rattle.bsp_store_open.specs.Opening.{IsOrdered, IsRead, KeepsAtRest, KeepsOn
 use Rattle.bsp_store_open.proofs.OpeningLemmas.{still_clean}
 use Rattle.bsp_store_save.specs.Making.{IsNewBook}
 use Rattle.bsp_store_save.proofs.MakingLemmas.{new_trees}
-use Rattle.bsp_store.specs.Meanings.{Holds}
+use Rattle.bsp_store.specs.Meanings.{Holds, SqlBook}
 use Rattle.bsp_store_open.specs.Migrating.{IsMigrated, KeepsOldBook, KeepsOnlyOld, LeavesMigration}
 use Rattle.bsp_store_open.specs.Old.{old_schema}
 use Rattle.bsp_store_open.specs.declared.old_versions.OldVersion.{OldVersion}
 use Rattle.bsp_store.specs.Adopting.{Adopts, IsFoundIn, IsMigratedIn, LeavesMigrated}
-use Rattle.bsp_store.specs.declared.book.SqlBook.{SqlBook}
 
 -- a book in memory that was read, with its tables
 pub book_read : {S : Type 0} (g : Ghosts S) (old new : Held S) (list : ListBook) (rows : Rows) → IsRead g old new list rows → (book : SqlBook S) → (book.list ≡ list) × (book.conn ≡ new) × (book.failed ≡ false) → Holds g book rows None

@@ -8,8 +8,8 @@ use Rattle.bsp_store_open.specs.Faults.{is_refusal}
 use Rattle.bsp_store_open.specs.Opening.{LeavesCommitted, Reopens}
 use Rattle.bsp_store_open.specs.declared.fault.OpenFault.{OpenFault}
 use Rattle.bsp_store.specs.Adopting.{Adopts, LeavesWhole, WasNoBook}
+use Rattle.bsp_store.specs.Meanings.{SqlBook}
 use Rattle.bsp_store.specs.Openings.{IsOpening}
-use Rattle.bsp_store.specs.declared.book.SqlBook.{SqlBook}
 use Rattle.bsp_store.proofs.AdoptingLemmas.{one_err, one_ok}
 use Rattle.bsp_store.proofs.StopLemmas.{finds_book}
 use Rattle.bsp_store.proofs.WholeLemmas.{whole_left}

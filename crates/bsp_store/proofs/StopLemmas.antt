@@ -24,9 +24,8 @@ use Rattle.bsp_store_open.proofs.VersionLemmas.{bare_not_ours, old_not_bare, old
 use Rattle.bsp_store_save.specs.Content.{form}
 use Rattle.bsp_store_save.specs.Kept.{KeepsRows}
 use Rattle.bsp_store.specs.Adopting.{Adopts, IsNewBookOf, LeavesWhole, ShowsNone, WasBare, WasNoBook}
-use Rattle.bsp_store.specs.Meanings.{Holds}
+use Rattle.bsp_store.specs.Meanings.{Holds, SqlBook}
 use Rattle.bsp_store.specs.Stops.{FindsBook, FindsRows, IsAnyBook, LeavesRows, OpeningsAreFound, StopsAreFound}
-use Rattle.bsp_store.specs.declared.book.SqlBook.{SqlBook}
 
 not_true : (b : Bool) → (b ≡ true → ⊥) → b ≡ false
 not_true true other = absurd (other refl)

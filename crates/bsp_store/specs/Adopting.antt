@@ -16,8 +16,7 @@ use Rattle.bsp_store_open.specs.declared.fault.OpenFault.{OpenFault}
 use Rattle.bsp_store_open.specs.Migrating.{IsMigrationOf, KeepsOldBook, KeepsOnlyOld, ShowsNoOldBook}
 use Rattle.bsp_store_open.specs.Old.{old_schema}
 use Rattle.bsp_store_open.specs.declared.old_versions.OldVersion.{OldVersion}
-use Rattle.bsp_store.specs.Meanings.{Holds}
-use Rattle.bsp_store.specs.declared.book.SqlBook.{SqlBook}
+use Rattle.bsp_store.specs.Meanings.{Holds, SqlBook}
 
 module _ {S : Type 0} (g : Ghosts S) where
   -- ---- a store with tables

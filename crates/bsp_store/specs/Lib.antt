@@ -1,3 +1,5 @@
+pub mod Keeping
+pub mod Lending
 pub mod Meanings
 pub mod Openings
 pub mod Adopting

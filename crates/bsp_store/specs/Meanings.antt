@@ -1,34 +1,40 @@
 -- What a book in tables contains.
-use Rattle.std.specs.Prelude.{◌≡◌, ◌⊎◌, false, Option, unwrap_or, ⊤}
-use Rattle.sqlite_trees.specs.Tree.{Trees}
+use Rattle.std.specs.Prelude.{◌≡◌, false, Option, unwrap_or, ⊤}
 use Rattle.sqlite_trees.specs.declared.store.Store.{Ghosts}
-use Rattle.sqlite.specs.Held.{Held, state}
-use Rattle.sqlite.specs.State.{HasCleanDisk}
+use Rattle.sqlite.specs.Held.{Held}
 use Rattle.bsp_rows.specs.Rows.{Rows}
 use Rattle.bsp_book.specs.Calls.{Meaning}
 use Rattle.bsp_book.specs.Listed.{meaning as listed}
-use Rattle.bsp_store_open.specs.Formed.{AreFormed, IsBook}
+use Rattle.bsp_book.specs.declared.list.ListBook.{ListBook}
+use Rattle.bsp_store_open.specs.Formed.{AreFormed}
 use Rattle.bsp_store_open.specs.Opening.{KeepsAtRest}
-use Rattle.bsp_store.specs.declared.book.SqlBook.{SqlBook}
+use Rattle.bsp_store.specs.declared.book.KeptBook.{KeptBook}
 
-module _ {S : Type 0} (g : Ghosts S) where
-  -- a stop leaves one of these rows
-  abbrev pub LeavesOne : Held S → Rows → Rows → Type 0
-  LeavesOne h a b = HasCleanDisk (state g h) → (db : Trees) → (state g h).may_leave db → IsBook a db ⊎ IsBook b db
+-- ---- a book in memory, and what keeps its rows
 
-  -- the rows now and at `begin` are in memory, their values are such as the program's types have, and the tables have those
-  -- of the last commit
-  pub record Holds (book : SqlBook S) (now : Rows) (begun : Option Rows) : Type 0 where
+module _ {L C : Type 0} (m : Meaning L Rows) (keeps : C → Rows → Type 0) where
+  -- the rows now and at `begin` are in memory, their values are such as the program's types have, and those of the last
+  -- commit are kept
+  pub record IsKeptBook (book : KeptBook L C) (now : Rows) (begun : Option Rows) : Type 0 where
     pub works : book.failed ≡ false
-    pub listed : listed.holds book.list now begun
+    pub listed : m.holds book.list now begun
     pub formed : AreFormed now
     pub was_formed : AreFormed (unwrap_or begun now)
-    pub kept : KeepsAtRest g book.conn (unwrap_or begun now)
+    pub kept : keeps book.conn (unwrap_or begun now)
 
-  abbrev pub meaning : Meaning (SqlBook S) Rows
-  meaning = record {
+  abbrev pub meaning : (C → Rows → Rows → Type 0) → Meaning (KeptBook L C) Rows
+  meaning leaves = record {
     trusts = λ book. ⊤;
-    holds = Holds;
-    leaves = λ book a b. LeavesOne book.conn a b;
+    holds = IsKeptBook;
+    leaves = λ book a b. leaves book.conn a b;
     has_failed = λ book. book.failed;
   }
+
+-- ---- a book in tables of a store
+
+abbrev pub SqlBook : Type 0 → Type 0
+SqlBook S = KeptBook ListBook (Held S)
+
+-- the tables have the rows of the last commit
+abbrev pub Holds : {S : Type 0} → Ghosts S → SqlBook S → Rows → Option Rows → Type 0
+Holds g = IsKeptBook listed (KeepsAtRest g)

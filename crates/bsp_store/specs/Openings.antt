@@ -8,8 +8,8 @@ use Rattle.bsp_store_open.specs.Faults.{fault_for, is_refusal}
 use Rattle.bsp_store_open.specs.declared.fault.OpenFault.{OpenFault}
 use Rattle.bsp_store.specs.Adopting.{Adopts, LeavesWhole, WasNoBook}
 use Rattle.bsp_store.specs.Files.{AnswersFiles, StoreFrom}
+use Rattle.bsp_store.specs.Meanings.{SqlBook}
 use Rattle.bsp_store.specs.Stops.{FindsBook}
-use Rattle.bsp_store.specs.declared.book.SqlBook.{SqlBook}
 
 module _ {S : Type 0} (g : Ghosts S) where
   -- a book is opened with the rows of the store; it is refused only where there is none; whatever the fault, a stop leaves

@@ -13,8 +13,8 @@ use Rattle.bsp_store_open.specs.declared.fault.OpenFault.{OpenFault}
 use Rattle.bsp_store_open.specs.Migrating.{IsOldBook}
 use Rattle.bsp_store_open.specs.declared.old_versions.OldVersion.{OldVersion}
 use Rattle.bsp_store.specs.Adopting.{LeavesWhole}
-use Rattle.bsp_store.specs.Meanings.{Holds, LeavesOne}
-use Rattle.bsp_store.specs.declared.book.SqlBook.{SqlBook}
+use Rattle.bsp_store.specs.Keeping.{LeavesOne}
+use Rattle.bsp_store.specs.Meanings.{Holds, SqlBook}
 
 -- trees with the tables of a book, of this version or of an earlier one, and nothing else, which keep these rows
 abbrev pub IsAnyBook : Rows → Trees → Type 0

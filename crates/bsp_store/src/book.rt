@@ -1,14 +1,12 @@
 //! A book in tables.
 
-ghost use Rattle.std.specs.Prelude.{◌≡◌, ◌⊎◌, ◌↔◌, IsOkUnless, IsTrue, None, OnErr, OnOk, Some, false, true};
+ghost use Rattle.std.specs.Prelude.{◌≡◌, ◌⊎◌, ◌↔◌, IsOkUnless, IsTrue, MatchResult, None, OnErr, OnOk, Some, false, true};
+ghost use Rattle.std.specs.Borrow.{sem};
 ghost use Rattle.bsp_book.specs.Calls.{Commits, FallsBack};
-ghost use Rattle.bsp_book.specs.Listed.{meaning as listed};
-ghost use Rattle.bsp_rows.specs.Rows.{HasNumberKey, key_of};
+ghost use Rattle.bsp_rows.specs.Rows.{HasNumberKey, Rows, key_of};
 ghost use Rattle.bsp_store_open.specs.Formed.{IsFormedItem};
-ghost use Rattle.bsp_store_save.specs.Content.{Content, form};
-ghost use Rattle.bsp_store_save.specs.Kept.{HasCommitted, HasContents};
-ghost use Rattle.bsp_store_save.specs.Calls.{IsKept};
 
+use crate::keeping::{InMemory, Keeps};
 use bsp_book::{Book, BookFault, ListBook, UsedRange};
 use bsp_rows::{
     AgentCode, AirlineCode, Change, Day, Item, ItemKey, Items, Memo, MemoKey, Memos, PeriodCode,
@@ -18,23 +16,27 @@ use bsp_store_open::{
     formed_agent, formed_airline, formed_closed, formed_day, formed_item, formed_memo,
     formed_period, formed_plan, formed_range,
 };
-use bsp_store_save::{recover, save};
-use sqlite::{Alter, Connection, Error, ErrorCode};
+use sqlite::{Connection, Error, ErrorCode};
 use std::alloc::Global;
+
+/// A book in memory, and what keeps its rows.
+///
+/// It answers each look-up from memory. A commit keeps what has changed since the last one.
+#[derive(Drop)]
+pub struct KeptBook<L, C> {
+    alloc: Global,
+    list: L,
+    conn: C,
+    failed: bool,
+    // The error of the store with which the book failed, if it was one.
+    cause: Option<Error>,
+}
 
 /// A book in tables of `sqlite`.
 ///
 /// It has the rows in memory too, and answers each look-up from there. A commit writes what has changed since the
 /// last one, in one transaction of the store.
-#[derive(Drop)]
-pub struct SqlBook<S: Alter> {
-    alloc: Global,
-    list: ListBook,
-    conn: Connection<S>,
-    failed: bool,
-    // The error of the store with which the book failed, if it was one.
-    cause: Option<Error>,
-}
+pub type SqlBook<S> = KeptBook<ListBook, Connection<S>>;
 
 /// Whether a store had no memory, or a row is too big for it.
 fn is_room(error: &Error) -> bool
@@ -64,13 +66,13 @@ fn formed_under_key(item: &Item)
     formed_item(key, *item);
 }
 
-impl<S: Alter> SqlBook<S> {
-    /// A book of a list that the tables keep.
-    pub(crate) fn of(alloc: Global, list: ListBook, conn: Connection<S>) -> SqlBook<S>
+impl<L, C> KeptBook<L, C> {
+    /// A book of a list that is kept.
+    pub(crate) fn of(alloc: Global, list: L, conn: C) -> KeptBook<L, C>
         ensures parts { (result.list ≡ list) × (result.conn ≡ conn) × (result.failed ≡ false) }
         ensures cause { result.cause ≡ None }
     {
-        SqlBook {
+        KeptBook {
             alloc,
             list,
             conn,
@@ -80,7 +82,7 @@ impl<S: Alter> SqlBook<S> {
     }
 
     /// The rows in memory.
-    pub fn list(&self) -> &ListBook
+    pub fn list(&self) -> &L
         ensures { result.now ≡ self.now.list }
     {
         &self.list
@@ -92,26 +94,43 @@ impl<S: Alter> SqlBook<S> {
     {
         self.cause
     }
+}
 
+impl<L: Drop, C> KeptBook<L, C> {
     /// Gives the connection back as it is, also after a failure.
-    pub fn release(self) -> Connection<S>
+    pub fn release(self) -> C
         ensures { result ≡ self.conn }
     {
-        let SqlBook { list, conn, .. } = self;
+        let KeptBook { list, conn, .. } = self;
         second_of(list, conn)
+    }
+}
+
+impl<L: InMemory, C: Keeps<L>> KeptBook<L, C> {
+    ghost use Rattle.bsp_store.specs.Lending.{LendsList};
+
+    /// The rows in memory, unless a call has failed.
+    fn working(&mut self) -> Result<&mut L, BookFault>
+        ensures* lends { sem 𝓛 (LendsList L.row C.row self.entry result) }
+        ensures found { MatchResult result (λ list. (list.now ≡ self.old.list) × (self.old.failed ≡ false)) (λ e. (e ≡ BookFault.Failed) × (self.old.failed ≡ true)) }
+    {
+        if self.failed {
+            return Err(BookFault::Failed);
+        }
+        Ok(&mut self.list)
     }
 
     /// Gives up the open transaction after an error of the store. Where the cause was room and the store can still be
     /// used, nothing is left of the transaction. Otherwise the book has failed.
     fn give_up(&mut self, error: Error) -> BookFault
-        ensures full { result ≡ BookFault.NoRoom → (self.new.failed ≡ self.old.failed) × ((last a b : Content) → HasCommitted form S.Store self.old.conn last a b → IsKept S.Store self.new.conn last) × FallsBack listed self.old.list self.new.list }
+        ensures full { result ≡ BookFault.NoRoom → (self.new.failed ≡ self.old.failed) × ((last now : Rows) → C.has_stopped self.old.conn last now → C.keeps self.new.conn last) × FallsBack L.Book.means self.old.list self.new.list }
         ensures room { result ≡ BookFault.NoRoom → (error ≡ Error.SqliteFailure ErrorCode.OutOfMemory) ⊎ (error ≡ Error.SqliteFailure ErrorCode.TooBig) }
         ensures kept { result ≡ BookFault.NoRoom → self.new.cause ≡ self.old.cause }
         ensures failed { result ≡ BookFault.Failed → self.new.failed ≡ true }
         ensures cause { result ≡ BookFault.Failed → self.new.cause ≡ Some error }
-        ensures stop { (last b : Content) → HasCommitted form S.Store self.old.conn last last b → HasContents form S.Store self.new.conn last last last b }
+        ensures stop { (last now : Rows) → C.has_stopped self.old.conn last now → C.leaves self.new.conn last now }
     {
-        let alive = recover(&mut self.conn);
+        let alive = self.conn.recover();
         if alive && is_room(&error) && self.list.roll_back().is_ok() {
             return BookFault::NoRoom;
         }
@@ -123,7 +142,7 @@ impl<S: Alter> SqlBook<S> {
     /// Keeps in memory what the store has committed. A book whose memory did not would show other rows than its store
     /// has: it has failed.
     fn keep(&mut self) -> Result<(), BookFault>
-        ensures ok { OnOk result ((self.new.failed ≡ self.old.failed) × Commits listed self.old.list self.new.list) }
+        ensures ok { OnOk result ((self.new.failed ≡ self.old.failed) × Commits L.Book.means self.old.list self.new.list) }
         ensures err { OnErr result (self.new.failed ≡ true) }
         ensures fault { IsOkUnless result BookFault.Failed }
         ensures conn { self.new.conn ≡ self.old.conn }
@@ -138,15 +157,14 @@ impl<S: Alter> SqlBook<S> {
     }
 }
 
-impl<S: Alter> Book for SqlBook<S> {
+impl<L: InMemory, C: Keeps<L>> Book for KeptBook<L, C> {
     ghost use Rattle.bsp_store.specs.Meanings.{meaning};
-    ghost use Rattle.std.proofs.Common.{inl, inr};
 
-    ghost means = { meaning S.Store };
+    ghost means = { meaning L.Book.means C.keeps C.leaves };
 
-    ghost settled = { λ book now begun holds clean db may. elim (holds.kept.2.0.leaves clean db may) [ inl a ↦ inl (record { formed = holds.was_formed; keeps = (holds.kept.0, holds.kept.1, a.0); sound = a.1 }) | inr b ↦ inl (record { formed = holds.was_formed; keeps = (holds.kept.0, holds.kept.1, b.0); sound = b.1 }) ] };
+    ghost settled = { λ book now begun holds. C.rests book.conn _ _ holds.was_formed holds.kept };
 
-    ghost wider = { λ book a b one clean db may. elim (one clean db may) [ inl it ↦ inl it | inr it ↦ inl it ] };
+    ghost wider = { λ book a b one. C.wider book.conn a b one };
 
     fn has_failed(&self) -> bool {
         self.failed
@@ -161,69 +179,45 @@ impl<S: Alter> Book for SqlBook<S> {
     }
 
     fn begin(&mut self) -> Result<(), BookFault> {
-        if self.failed {
-            return Err(BookFault::Failed);
-        }
-        self.list.begin()
+        self.working()?.begin()
     }
 
     fn commit(&mut self) -> Result<(), BookFault> {
         if self.failed {
             return Err(BookFault::Failed);
         }
-        match save(self.alloc, &mut self.conn, self.list.tables()) {
+        match self.conn.save(self.alloc, &self.list) {
             Ok(()) => self.keep(),
             Err(error) => Err(self.give_up(error)),
         }
     }
 
     fn roll_back(&mut self) -> Result<(), BookFault> {
-        if self.failed {
-            return Err(BookFault::Failed);
-        }
-        self.list.roll_back()
+        self.working()?.roll_back()
     }
 
     fn agent_token(&mut self, agent: AgentCode) -> Result<Option<Token>, BookFault> {
-        if self.failed {
-            return Err(BookFault::Failed);
-        }
-        self.list.agent_token(agent)
+        self.working()?.agent_token(agent)
     }
 
     fn airline_token(&mut self, airline: AirlineCode) -> Result<Option<Token>, BookFault> {
-        if self.failed {
-            return Err(BookFault::Failed);
-        }
-        self.list.airline_token(airline)
+        self.working()?.airline_token(airline)
     }
 
     fn ranges(&mut self, agent: AgentCode) -> Result<Vec<Range>, BookFault> {
-        if self.failed {
-            return Err(BookFault::Failed);
-        }
-        self.list.ranges(agent)
+        self.working()?.ranges(agent)
     }
 
     fn stock(&mut self, agent: AgentCode) -> Result<Vec<UsedRange>, BookFault> {
-        if self.failed {
-            return Err(BookFault::Failed);
-        }
-        self.list.stock(agent)
+        self.working()?.stock(agent)
     }
 
     fn meets_range(&mut self, range: Range) -> Result<bool, BookFault> {
-        if self.failed {
-            return Err(BookFault::Failed);
-        }
-        self.list.meets_range(range)
+        self.working()?.meets_range(range)
     }
 
     fn is_range_used(&mut self, agent: AgentCode, range: Range) -> Result<bool, BookFault> {
-        if self.failed {
-            return Err(BookFault::Failed);
-        }
-        self.list.is_range_used(agent, range)
+        self.working()?.is_range_used(agent, range)
     }
 
     fn items_bearing(
@@ -231,10 +225,7 @@ impl<S: Alter> Book for SqlBook<S> {
         agent: AgentCode,
         transaction: &Transaction,
     ) -> Result<Vec<Item>, BookFault> {
-        if self.failed {
-            return Err(BookFault::Failed);
-        }
-        self.list.items_bearing(agent, transaction)
+        self.working()?.items_bearing(agent, transaction)
     }
 
     fn items_with_number(
@@ -242,147 +233,92 @@ impl<S: Alter> Book for SqlBook<S> {
         agent: AgentCode,
         number: &[u8; 10],
     ) -> Result<Vec<Item>, BookFault> {
-        if self.failed {
-            return Err(BookFault::Failed);
-        }
-        self.list.items_with_number(agent, number)
+        self.working()?.items_with_number(agent, number)
     }
 
     fn items(&mut self, which: Items) -> Result<Vec<Item>, BookFault> {
-        if self.failed {
-            return Err(BookFault::Failed);
-        }
-        self.list.items(which)
+        self.working()?.items(which)
     }
 
     fn memo(&mut self, key: MemoKey) -> Result<Option<Memo>, BookFault> {
-        if self.failed {
-            return Err(BookFault::Failed);
-        }
-        self.list.memo(key)
+        self.working()?.memo(key)
     }
 
     fn memos(&mut self, which: Memos) -> Result<Vec<Memo>, BookFault> {
-        if self.failed {
-            return Err(BookFault::Failed);
-        }
-        self.list.memos(which)
+        self.working()?.memos(which)
     }
 
     fn issued_count(&mut self, agent: AgentCode, airline: AirlineCode) -> Result<u64, BookFault> {
-        if self.failed {
-            return Err(BookFault::Failed);
-        }
-        self.list.issued_count(agent, airline)
+        self.working()?.issued_count(agent, airline)
     }
 
     fn tally(&mut self, key: TallyKey) -> Result<Tally, BookFault> {
-        if self.failed {
-            return Err(BookFault::Failed);
-        }
-        self.list.tally(key)
+        self.working()?.tally(key)
     }
 
     fn tallies(&mut self, which: Tallies) -> Result<Vec<Tally>, BookFault> {
-        if self.failed {
-            return Err(BookFault::Failed);
-        }
-        self.list.tallies(which)
+        self.working()?.tallies(which)
     }
 
     fn set_agent_token(&mut self, agent: AgentCode, token: Token) -> Result<(), BookFault> {
-        if self.failed {
-            return Err(BookFault::Failed);
-        }
         formed_agent(agent, token);
-        self.list.set_agent_token(agent, token)
+        self.working()?.set_agent_token(agent, token)
     }
 
     fn set_airline_token(&mut self, airline: AirlineCode, token: Token) -> Result<(), BookFault> {
-        if self.failed {
-            return Err(BookFault::Failed);
-        }
         formed_airline(airline, token);
-        self.list.set_airline_token(airline, token)
+        self.working()?.set_airline_token(airline, token)
     }
 
     fn add_range(&mut self, agent: AgentCode, range: Range) -> Result<(), BookFault> {
-        if self.failed {
-            return Err(BookFault::Failed);
-        }
         formed_range(RangeKey::of(agent, &range), range.last);
-        self.list.add_range(agent, range)
+        self.working()?.add_range(agent, range)
     }
 
     fn withdraw_range(&mut self, agent: AgentCode, range: Range) -> Result<(), BookFault> {
-        if self.failed {
-            return Err(BookFault::Failed);
-        }
-        self.list.withdraw_range(agent, range)
+        self.working()?.withdraw_range(agent, range)
     }
 
     fn add_item(&mut self, item: &Item) -> Result<(), BookFault> {
-        if self.failed {
-            return Err(BookFault::Failed);
-        }
         formed_under_key(item);
-        self.list.add_item(item)
+        self.working()?.add_item(item)
     }
 
     fn end_item(&mut self, key: ItemKey) -> Result<(), BookFault> {
-        if self.failed {
-            return Err(BookFault::Failed);
-        }
-        self.list.end_item(key)
+        self.working()?.end_item(key)
     }
 
     fn add_memo(&mut self, memo: &Memo) -> Result<(), BookFault> {
-        if self.failed {
-            return Err(BookFault::Failed);
-        }
         formed_memo(MemoKey::of(memo.fields()), *memo.fields());
-        self.list.add_memo(memo)
+        self.working()?.add_memo(memo)
     }
 
     fn set_memo(&mut self, memo: &Memo) -> Result<(), BookFault> {
-        if self.failed {
-            return Err(BookFault::Failed);
-        }
         formed_memo(MemoKey::of(memo.fields()), *memo.fields());
-        self.list.set_memo(memo)
+        self.working()?.set_memo(memo)
     }
 
     fn bill(&mut self, key: MemoKey, period: PeriodCode) -> Result<(), BookFault> {
-        if self.failed {
-            return Err(BookFault::Failed);
-        }
         formed_period(period);
-        self.list.bill(key, period)
+        self.working()?.bill(key, period)
     }
 
     fn publish(&mut self, text: &PlanText) -> Result<Result<Change, PlanFault>, BookFault> {
-        if self.failed {
-            return Err(BookFault::Failed);
-        }
-        let answer = self.list.publish(text);
-        formed_plan(self.list.plan());
+        let list = self.working()?;
+        let answer = list.publish(text);
+        formed_plan(list.plan());
         answer
     }
 
     fn set_day(&mut self, day: Day) -> Result<Result<Change, PlanFault>, BookFault> {
-        if self.failed {
-            return Err(BookFault::Failed);
-        }
         formed_day(day);
-        self.list.set_day(day)
+        self.working()?.set_day(day)
     }
 
     fn close(&mut self, code: PeriodCode) -> Result<Result<Change, PlanFault>, BookFault> {
-        if self.failed {
-            return Err(BookFault::Failed);
-        }
-        let answer = self.list.close(code);
-        formed_closed(self.list.plan());
+        let list = self.working()?;
+        let answer = list.close(code);
+        formed_closed(list.plan());
         answer
     }
 }

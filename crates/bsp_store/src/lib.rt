@@ -3,6 +3,7 @@
 
 mod audit;
 mod book;
+mod keeping;
 mod laws;
 mod logged;
 mod missing_log;
@@ -10,7 +11,7 @@ mod on_files;
 mod opening;
 
 pub use audit::{AuditFault, Summary, audit_at, audit_store, plan_at};
-pub use book::SqlBook;
+pub use book::{KeptBook, SqlBook};
 pub use bsp_store_damage::Damage;
 pub use bsp_store_open::OpenFault;
 pub use laws::stops_are_found;

@@ -3,15 +3,13 @@
 //! [`find_damage`] looks for it in a store that was refused as damaged, and [`Damage`] is a line's end for an operator.
 #![tactic(auto)]
 
-mod beside;
 mod damage;
 mod end;
-mod key;
-mod rows;
+mod plan;
 mod schema;
 mod search;
+mod sums;
 mod tables;
-mod tallies;
 
 pub use damage::Damage;
 pub use search::find_damage;

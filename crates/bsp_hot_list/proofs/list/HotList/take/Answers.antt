@@ -1,6 +1,5 @@
 use Rattle.std.proofs.Common.{◌+◌, refl, sym, ap, ◌∙◌}
-use Rattle.std.specs.Prelude.{Some}
-use Rattle.bsp_hot_list.proofs.ListLemmas.{ended_taken, few_small, other_taken, part_taken, taken_if}
+use Rattle.bsp_hot_list.proofs.ListLemmas.{ended_taken, other_taken, part_taken, taken_if}
 use Rattle.bsp_hot_list.specs.Taken.{stage_with}
 use Rattle.bsp_hot_list.proofs.list.HotList.take.Goals as goal
 
