@@ -1,16 +1,13 @@
 -- The map of the airlines: what is at each of them, and what one more publication or another token makes of it.
-use Rattle.std.proofs.Common.{◌≡◌, ℕ, ◌+◌, ◌<◌, ◌==◌, Bool, true, false, cond, List, [], ◌∷◌, ◌++◌, map, length, take, get_or, refl, sym, ap, ◌∙◌, arith}
-use Rattle.std.specs.Prelude.{Option, Some, None}
+use Rattle.std.proofs.Common.{◌≡◌, ℕ, ◌+◌, ◌<◌, ◌==◌, Bool, true, false, cond, List, [], ◌∷◌, ◌++◌, map, length, take, get_or, refl, sym, ap, ◌∙◌, Option, Some, None, eqb-true}
 use Rattle.std.specs.Option.{option_or}
 use Rattle.std.specs.Ordering.{eq_by_cmp, nat_cmp}
 use Rattle.std.specs.Cmp.{nat_cmp_total, unsigned_tied}
 use Rattle.std.specs.FinMap.{FinMap, entries, find, get, get-entries, get-from_entries, get-insert, insert}
-use Rattle.std.proofs.lemmas.Bool.{eqb-true}
-use Rattle.std.proofs.lemmas.List.{length-take-le}
-use Rattle.bsp_store_base.specs.declared.airlines.AirlineEntry.{AirlineEntry}
+use Rattle.bsp_store_base.specs.Entries.{AirlineEntry}
 use Rattle.bsp_store_base.specs.Airlines.{airline_entries, entry_of, place_among, place_of, published_at, registered, unplaced, with_published}
 use Rattle.bsp_store_base.specs.Columns.{placed}
-use Rattle.bsp_store_base.proofs.Placing.{one_more, placed_next}
+use Rattle.bsp_store_base.proofs.Placing.{placed_taken}
 
 -- ---- places
 
@@ -24,14 +21,9 @@ place_among-last a (d ∷ es) e =
     let own : Option ℕ = cond (a == d.1) (Some d.0) None in
     ap (λ o. option_or o own) (place_among-last a es e) ∙ first_of (a == e.1) e.0 (place_among a es) own
 
-pub place_of-next : (a : ℕ) (ps : List ℕ) (p : ℕ) → place_of a (ps ++ p ∷ []) ≡ cond (a == p) (Some (length ps + 1)) (place_of a ps)
-place_of-next a ps p = ap (place_among a) (placed_next ps p) ∙ place_among-last a (placed 0 ps) (length ps + 1, p)
-
 -- the place among one more of a list
 pub place_taken : (a : ℕ) (ps : List ℕ) (i p : ℕ) → i < length ps → p ≡ get_or ps i p → place_of a (take (i + 1) ps) ≡ cond (a == p) (Some (i + 1)) (place_of a (take i ps))
-place_taken a ps i p below is =
-    ap (place_of a) (sym (one_more ps i p below is)) ∙ place_of-next a (take i ps) p
-    ∙ ap (λ (n : ℕ). cond (a == p) (Some (n + 1)) (place_of a (take i ps))) (length-take-le i ps (omega arith))
+place_taken a ps i p below is = ap (place_among a) (placed_taken ps i p below is) ∙ place_among-last a (placed 0 (take i ps)) (i + 1, p)
 
 -- ---- what is at an airline
 
@@ -85,23 +77,12 @@ module _ (tokens : FinMap nat_cmp (List ℕ)) where
   with_published-last [] e m = refl
   with_published-last (d ∷ es) e m = with_published-last es e (insert m d.1 (published_at tokens d))
 
-  with_published-next : (ps : List ℕ) (p : ℕ) (m : FinMap nat_cmp AirlineEntry) → with_published tokens (placed 0 (ps ++ p ∷ [])) m ≡ insert (with_published tokens (placed 0 ps) m) p (published_at tokens (length ps + 1, p))
-  with_published-next ps p m = ap (λ es. with_published tokens es m) (placed_next ps p) ∙ with_published-last (placed 0 ps) (length ps + 1, p) m
-
   -- one airline more of a list
   pub with_published-taken : (ps : List ℕ) (i p : ℕ) (m : FinMap nat_cmp AirlineEntry) → i < length ps → p ≡ get_or ps i p
       → with_published tokens (placed 0 (take (i + 1) ps)) m ≡ insert (with_published tokens (placed 0 (take i ps)) m) p (published_at tokens (i + 1, p))
-  with_published-taken ps i p m below is =
-      ap (λ l. with_published tokens (placed 0 l) m) (sym (one_more ps i p below is)) ∙ with_published-next (take i ps) p m
-      ∙ ap (λ (n : ℕ). insert (with_published tokens (placed 0 (take i ps)) m) p (published_at tokens (n + 1, p))) (length-take-le i ps (omega arith))
+  with_published-taken ps i p m below is = ap (λ es. with_published tokens es m) (placed_taken ps i p below is) ∙ with_published-last (placed 0 (take i ps)) (i + 1, p) m
 
   pub airline_entries-taken : (ps : List ℕ) (i p : ℕ) → i < length ps → p ≡ get_or ps i p
       → airline_entries (take (i + 1) ps) tokens ≡ insert (airline_entries (take i ps) tokens) p (record { place = Some (i + 1); token = get tokens p })
   unfolding airline_entries
   airline_entries-taken ps i p below is = with_published-taken ps i p (registered tokens) below is
-
-  pub airline_entries-next : (ps : List ℕ) (p : ℕ) → airline_entries (ps ++ p ∷ []) tokens ≡ insert (airline_entries ps tokens) p (record { place = Some (length ps + 1); token = get tokens p })
-  unfolding airline_entries
-  airline_entries-next ps p = with_published-next ps p (registered tokens)
-
--- ---- another token

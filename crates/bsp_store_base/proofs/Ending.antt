@@ -1,23 +1,11 @@
 -- BEGIN, COMMIT and ROLLBACK, and what a stop may leave of each statement.
-use Rattle.std.proofs.Common.{◌≡◌, ◌≢◌, ◌⊎◌, inl, inr, ℕ, List, [], codes, true, false, Option, Some, None, Ok, Err, Result, IsTrue, refl, sym, ap, ◌∙◌, subst, true≢false, length}
-use Rattle.std.specs.Prelude.{nat_le}
-use Rattle.std.proofs.lemmas.Bool.{both_ways, leb-true, cases_Bool}
-use Rattle.sqlite_value.specs.Order.{Row}
-use Rattle.sqlite_trees.specs.Tree.{Trees}
-use Rattle.sqlite_schema.specs.declared.schema.Schema.{Schema}
-use Rattle.sqlite_schema.specs.declared.command.Command.{Command}
-use Rattle.sqlite_schema.specs.declared.command.Command.TheVariants.{Begin, Commit, Rollback, Release}
-use Rattle.sqlite_resolve.specs.declared.compiled.Compiled.{Compiled}
-use Rattle.sqlite_resolve.specs.declared.error.CompileError.{CompileError}
+use Rattle.std.proofs.Common.{◌≡◌, ◌≢◌, inl, inr, ℕ, List, [], codes, true, false, Option, Some, None, Ok, Err, Result, IsTrue, refl, sym, ap, ◌∙◌, subst, true≢false, length, nat_le}
+use Rattle.std.proofs.lemmas.Bool.{both_ways, leb-true}
+use Rattle.bsp_store_base.specs.Sqlite.{Begin, Command, Commit, CompileError, Compiled, Database, Does, Error, Executes, IsMisplaced, IsRolledBack, MayCommit, Release, Returning, Rollback, Row, RunsCommand, Schema, Shows, State, Tally, Trees, mode_of, shows_rows, text_of, timed}
 use Rattle.sqlite_tied.specs.Compute.{everything}
 use Rattle.sqlite.specs.Calls.{IsWrite}
-use Rattle.sqlite.specs.Effect.{Database}
-use Rattle.sqlite.specs.Does.{Tally, Does}
-use Rattle.sqlite_schema.specs.declared.command.Returning.{Returning}
-use Rattle.sqlite.specs.Clock.{timed}
-use Rattle.sqlite.specs.declared.error.Error.{Error}
 use Rattle.sqlite.specs.Listing.{understood}
-use Rattle.sqlite.specs.State.{State, Shows, IsRolledBack, Executes, ExecutesIn, IsNotRun, IsMisplaced, CommitsBy, MayCommit, RunsAlone, RunsCommand, text_of, shows_rows, IsUnchanged, mode_of}
+use Rattle.sqlite.specs.State.{ExecutesIn, IsNotRun, CommitsBy}
 use Rattle.sqlite.proofs.Callers.{command_of, runs_as}
 use Rattle.bsp_store_base.proofs.Ends.{ends_any, plain_any}
 
@@ -51,17 +39,11 @@ undoes old new (Err e) inside h = failed h
     misplaced k is (inr (why, name, inl release, un)) = absurd (let other = sym is ∙ release in cc)
     misplaced k is (inr (why, name, inr back, un)) = absurd (let other = sym is ∙ back in cc)
 
-    changes : (k : Command) → k ≡ Rollback → IsWrite k → ⊥
-    changes k is w = subst IsWrite is w
-
     commanded : (c : Compiled) (params : Row) → c.command ≡ Rollback → c.returning ≡ None → RunsCommand old new (codes "ROLLBACK") c params (Err e) → IsRolledBack old new
     commanded c params is none (inl (inl bad, same)) = absurd (misplaced c.command is bad)
-    commanded c params is none (inl (inr (inl write, does), same)) = absurd (changes c.command is write)
+    commanded c params is none (inl (inr (inl write, does), same)) = absurd (subst IsWrite is write)
     commanded c params is none (inl (inr (inr some, does), same)) = absurd (let no = rw none at some in true≢false (sym no))
     commanded c params is none (inr fails) = fails.3
-
-    ran_alone : (c : Compiled) (params : Row) → c.command ≡ Rollback → c.returning ≡ None → RunsAlone false old new (codes "ROLLBACK") c params (Err e) → IsRolledBack old new
-    ran_alone c params is none ran = let silent : shows_rows false c ≡ false = rw (is, none) refl in commanded c params is none (rw silent at ran)
 
     failed : Executes (codes "ROLLBACK") [] old new (Err e) → IsRolledBack old new
     failed (inl (inl (inl bad, same))) = absurd (proper (Err bad.0) bad.1)
@@ -69,7 +51,10 @@ undoes old new (Err e) inside h = failed h
     failed (inl (inl (inr (c, is, inr (inl many)), same))) = absurd (many.0 (sym (proper (Ok c) is).1))
     failed (inl (inl (inr (c, is, inr (inr late)), same))) = absurd (late.0 (proper (Ok c) is).2)
     failed (inl (inr fails)) = fails.3
-    failed (inr (c, it, ran)) = let p = proper (Ok c) it.is in ran_alone c _ p.4 p.3 ran
+    failed (inr (c, it, ran)) =
+        let p = proper (Ok c) it.is in
+        let silent : shows_rows false c ≡ false = rw (p.4, p.3) refl in
+        commanded c _ p.4 p.3 (rw silent at ran)
 
 -- inside a transaction a statement that does not end it commits nothing
 pub quiet : (sql : List ℕ) (params : Row) (s : State) (db : Trees) (command : Command) → command_of (understood s.now.schema sql) ≡ command → command ≢ Commit
@@ -89,20 +74,6 @@ pub commits_now : (sql : List ℕ) (params : Row) (s : State) (db : Trees) → I
 unfolding CommitsBy
 commits_now sql params s db inside (c, it, inl may) = may.1
 commits_now sql params s db inside (c, it, inr may) = absurd (both_ways _ may.0 inside)
-
--- a statement that is refused or fails changes nothing, or rolls back
-pub refused : (sql : List ℕ) (params : Row) (old new : State) (e : Error) → Executes sql params old new (Err e) → IsUnchanged old new ⊎ IsRolledBack old new
-unfolding ExecutesIn IsNotRun
-refused sql params old new e (inl (inl bad)) = inl bad.1
-refused sql params old new e (inl (inr fails)) = inr fails.3
-refused sql params old new e (inr (c, it, ran)) = elim (cases_Bool (shows_rows false c)) [
-  | inl shows ↦ inl (rw shows at ran).1
-  | inr runs ↦ ends (rw runs at ran)
-]
-  where
-    ends : RunsCommand old new sql c (timed params c.formats it.now) (Err e) → IsUnchanged old new ⊎ IsRolledBack old new
-    ends (inl h) = inl h.1
-    ends (inr fails) = inr fails.3
 
 -- BEGIN commits nothing
 pub begin_commits_nothing : (s : State) (db : Trees) → CommitsBy (codes "BEGIN") [] s db → ⊥

@@ -1,21 +1,14 @@
 -- Codes in decimal digits, as the WHERE of a key compares its columns.
-use Rattle.std.proofs.Common.{◌≡◌, ℕ, zero, suc, ◌+◌, ◌^◌, ◌<◌, Bool, true, false, ◌&&◌, cond, refl, subst, sym, ap, ap₂, ◌∙◌, arith, Ordering, Less, Equal, Greater, is_eq, nat_cmp}
-use Rattle.std.specs.Prelude.{nat_lt, pos}
-use Rattle.std.specs.Bool.{Decides}
+use Rattle.std.proofs.Common.{◌≡◌, ℕ, zero, suc, ◌+◌, ◌^◌, ◌<◌, Bool, true, false, ◌&&◌, cond, refl, subst, sym, ap, ap₂, ◌∙◌, arith, Ordering, Less, Equal, Greater, is_eq, nat_cmp, nat_lt, pos, Decides, bytes_eq}
 use Rattle.std.specs.Ordering.{bool_cmp, ordering_then}
 use Rattle.std.specs.Cmp.{Equal-is, nat_cmp_total, tied_itself}
 use Rattle.std.specs.FinMap.{nat_cmp-IsAntisymmetric}
-use Rattle.std.specs.Str.{bytes_eq}
 use Rattle.std.proofs.Math.Nat.{pow-suc, pow-le-pow_right}
-use Rattle.std.proofs.lemmas.Bool.{ltb-true, lt-ltb}
+use Rattle.std.proofs.lemmas.Bool.{cond_both, ltb-true, lt-ltb}
 use Rattle.std.proofs.lemmas.Bool.Decides.{same_from_decides}
 use Rattle.std.proofs.lemmas.Map.Text.{is_eq-slice_cmp}
 use Rattle.std.proofs.lemmas.Slice.Eq.{bytes_eq-Decides}
-use Rattle.sqlite_value.specs.declared.value.Value.TheVariants.{Text}
-use Rattle.sqlite_value.specs.declared.keys.Collation.TheVariants.{Binary}
-use Rattle.sqlite_sql.specs.declared.ops.BinaryOp.TheVariants.{Compare}
-use Rattle.sqlite_sql.specs.declared.ops.CompareOp.TheVariants.{Eq}
-use Rattle.sqlite_sql.specs.Ops.{binary, is_true}
+use Rattle.bsp_store_base.specs.Sqlite.{Binary, Compare, Eq, Text, binary, is_true}
 use Rattle.bsp_rows.specs.Decimal.{number_of, fixed_digits}
 use Rattle.bsp_rows.proofs.DecimalLemmas.{number_of-fixed_digits}
 use Rattle.bsp_store_base.specs.Columns.{code_digits, flag}
@@ -36,11 +29,8 @@ below_wide : (w n : ℕ) → n < 10 ^ (w + suc n)
 below_wide w n = omega (arith, below_power n, pow-le-pow_right {n = 10} (omega arith) {i = n} {j = w + suc n} (omega arith))
 
 pub number_of-code_digits : (w n : ℕ) → number_of (code_digits w n) ≡ n
-number_of-code_digits w n = go (nat_lt n (10 ^ w)) refl
-  where
-    go : (b : Bool) → nat_lt n (10 ^ w) ≡ b → number_of (cond b (fixed_digits w n) (fixed_digits (w + suc n) n)) ≡ n
-    go true e = number_of-fixed_digits w n (ltb-true n (10 ^ w) e)
-    go false e = number_of-fixed_digits (w + suc n) n (below_wide w n)
+number_of-code_digits w n =
+    cond_both (nat_lt n (10 ^ w)) _ _ (λ ds. number_of ds ≡ n) (λ e. number_of-fixed_digits w n (ltb-true n (10 ^ w) e)) (λ e. number_of-fixed_digits (w + suc n) n (below_wide w n))
 
 pub one_code : (w a k : ℕ) → code_digits w a ≡ code_digits w k → a ≡ k
 one_code w a k e = sym (number_of-code_digits w a) ∙ ap number_of e ∙ number_of-code_digits w k

@@ -18,6 +18,4 @@ pub mod Writes
 pub mod MapTables
 pub mod SecondLemmas
 pub mod ReadBack
-pub mod SchemaLemmas
-pub mod Texts
 pub mod MakingLemmas

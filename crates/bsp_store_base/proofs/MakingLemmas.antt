@@ -1,36 +1,21 @@
 -- The text of the tables makes them in a store that has nothing, one statement after the other.
-use Rattle.std.proofs.Common.{◌≡◌, ℕ, zero, suc, List, [], ◌∷◌, ◌++◌, append-nil, drop, fold, length, take, inl, inr, false, true, None, Ok, Err, Option, Result, OnOk, Some, refl, sym, ap, subst, subst₂, ◌∙◌}
-use Rattle.std.specs.Prelude.{nat_lt}
-use Rattle.std.specs.List.{AllByRecursion}
+use Rattle.std.proofs.Common.{◌≡◌, ℕ, zero, suc, List, [], ◌∷◌, append-nil, drop, fold, length, take, inl, inr, false, true, None, Ok, Err, Option, Result, OnOk, Some, refl, sym, ap, subst, subst₂, ◌∙◌, nat_lt}
+use Rattle.std.specs.Fmt.{digits}
 use Rattle.std.proofs.lemmas.Bool.{cases_Bool}
 use Rattle.std.proofs.lemmas.Option.{none-some, same_Some}
-use Rattle.sqlite_value.specs.Order.{Row}
-use Rattle.sqlite_trees.specs.Tree.{Trees}
-use Rattle.sqlite_trees.specs.declared.store.Store.{Ghosts}
-use Rattle.sqlite_schema.specs.declared.schema.Schema.{Schema}
-use Rattle.sqlite_schema.specs.declared.schema.Table.{Table}
-use Rattle.sqlite_schema.specs.declared.command.Command.{Command}
-use Rattle.sqlite_schema.specs.declared.command.Returning.{Returning}
-use Rattle.sqlite_schema.specs.declared.command.Command.TheVariants.{CreateTable}
+use Rattle.bsp_store_base.specs.Sqlite.{Command, CompileError, Compiled, CreateTable, Database, Error, Ghosts, Gives, HasCleanDisk, Held, MakesSequence, MakesTable, Returning, Row, Runs, Schema, State, Table, Tally, Then, Writes, lacks_sequence, no_rows, shows_rows, state, text_of, timed}
+use Rattle.sqlite_trees.proofs.ListLemmas.{all-append, all_both}
 use Rattle.sqlite_resolve.specs.Compile.{table_defined_by}
-use Rattle.sqlite_resolve.specs.declared.compiled.Compiled.{Compiled}
-use Rattle.sqlite_resolve.specs.declared.error.CompileError.{CompileError}
 use Rattle.sqlite_catalog.specs.Change.{KeepsRows, created, next_tree}
 use Rattle.sqlite_tied.specs.Compute.{everything}
-use Rattle.sqlite.specs.Batch.{ExecutesAllInside, RunInTurn, Step, first_len}
-use Rattle.sqlite.specs.Clock.{timed}
-use Rattle.sqlite.specs.declared.error.Error.{Error}
-use Rattle.sqlite.specs.Does.{MakesSequence, MakesTable, Tally, lacks_sequence, no_rows}
-use Rattle.sqlite.specs.Effect.{Database}
-use Rattle.sqlite.specs.Held.{Held, state}
+use Rattle.sqlite.specs.Batch.{ExecutesAllInside, RunInTurn, first_len}
 use Rattle.sqlite.specs.Listing.{understood}
-use Rattle.sqlite.specs.Rows.{Gives, Then}
-use Rattle.sqlite.specs.State.{ExecutesIn, HasCleanDisk, Runs, State, Writes, shows_rows, text_of}
+use Rattle.sqlite.specs.State.{ExecutesIn}
 use Rattle.sqlite.proofs.Callers.{IsPlain, command_of, statement_of, through}
 use Rattle.bsp_store_base.specs.Made.{HasNoRows}
 use Rattle.bsp_store_base.specs.Schema.{no_schema, our_schema, our_tables}
 use Rattle.bsp_store_base.specs.declared.made.TheConstants.{TABLES}
-use Rattle.bsp_store_base.proofs.SchemaLemmas.{made_is_our_schema}
+use Rattle.bsp_store_base.proofs.Writing.{same_value}
 
 -- ---- one statement of a text
 
@@ -47,17 +32,6 @@ module _ (sql : List ℕ) (params : Row) (old new : State) (schema : Schema) (ha
         | inr runs ↦ rw runs at h.2
       ] in
       subst₂ (λ k t. Runs old new None k t params count) (ap command_of known ∙ is) (ap (statement_of sql) known) (rw (bare.0, bare.1, append-nil params) at ran)
-
-still_empty : (old new : Trees) (tables : List Table) → KeepsRows tables old new → AllByRecursion (λ (t : Table). old t.tree ≡ []) tables → AllByRecursion (λ (t : Table). new t.tree ≡ []) tables
-still_empty old new [] keeps empty = tt
-still_empty old new (t ∷ ts) keeps empty = (keeps.0 ∙ empty.0, still_empty old new ts keeps.1 empty.1)
-
-and_last : (P : Table → Type 0) (ts : List Table) (t : Table) → AllByRecursion P ts → P t → AllByRecursion P (ts ++ t ∷ [])
-and_last P [] t all last = (last, tt)
-and_last P (x ∷ ts) t all last = (all.0, and_last P ts t all.1 last)
-
-same_value : {B E : Type 0} {a b : B} → ◌≡◌ {A = Result B E} (Ok a) (Ok b) → a ≡ b
-same_value e = cc
 
 -- CREATE TABLE adds its table, which has no row, and leaves the others without rows
 creates : (schema : Schema) (sql : List ℕ) (table : Table) → command_of (understood schema sql) ≡ CreateTable → IsPlain (understood schema sql)
@@ -78,7 +52,7 @@ creates schema sql table is plain defined uncounted old new count h has =
     let last : first.0.trees (next_tree schema) ≡ [] = subst (λ s. first.0.trees (next_tree s) ≡ []) has.schema made.empty in
     subst (HasNoRows (created schema table)) (sym now) (record {
       schema = after;
-      empty = and_last (λ (t : Table). first.0.trees t.tree ≡ []) schema.tables (record table { tree = next_tree schema }) (still_empty old.now.trees first.0.trees schema.tables keeps has.empty) last;
+      empty = all-append (λ (t : Table). first.0.trees t.tree ≡ []) schema.tables (record table { tree = next_tree schema } ∷ []) (all_both _ _ _ (λ t same empty. same ∙ empty) schema.tables keeps has.empty) (last, tt);
     })
 
 -- ---- the statements one after the other
@@ -111,35 +85,25 @@ MakeAll schema text [] = text ≡ []
 MakeAll schema text (t ∷ ts) = Makes schema text (record t { tree = 0 }) × MakeAll (created schema (record t { tree = 0 })) (drop (first_len text) text) ts
 
 module _ {S : Type 0} (g : Ghosts S) (held : ℕ) where
-  -- the first statement of a text has run, and then the others
-  record Turned (text : List ℕ) (old new : Held S) (done : Unit {0}) : Type 0 where
-    mid : Held S
-    count : ℕ
-    most : ℕ
-    first : Step g (take (first_len text) text) old mid (Ok count)
-    rest : RunInTurn g (Some held) most (drop (first_len text) text) mid new (Ok done)
-
-  turned : (most : ℕ) (text : List ℕ) → nat_lt 0 (length text) ≡ true → (old new : Held S) (done : Unit {0}) → RunInTurn g (Some held) most text old new (Ok done) → Turned text old new done
-  turned most [] some old new done ran = absurd (cc some)
-  turned zero (b ∷ more) some old new done ran = absurd ran
-  turned (suc most) (b ∷ more) some old new done (inl failed) = absurd (let no = failed.1 in cc)
-  turned (suc most) (b ∷ more) some old new done (inr went) = record { mid = went.0; count = went.1; most = most; first = went.2; rest = went.3 }
-
-  ended : (most : ℕ) (text : List ℕ) → text ≡ [] → (old new : Held S) (done : Unit {0}) → RunInTurn g (Some held) most text old new (Ok done) → new ≡ old
-  ended most [] none old new done ran = ran.1
-  ended most (b ∷ more) none old new done ran = absurd (cc none)
-
   all_made : (ts : List Table) (schema : Schema) (text : List ℕ) → MakeAll schema text ts → (most : ℕ) (old new : Held S) (done : Unit {0}) → RunInTurn g (Some held) most text old new (Ok done)
       → HasNoRows schema (state g old).now → HasNoRows (fold (λ made t. created made (record t { tree = 0 })) schema ts) (state g new).now
-  all_made [] schema text none most old new done ran has = subst (λ h. HasNoRows schema (state g h).now) (sym (ended most text none old new done ran)) has
-  all_made (t ∷ ts) schema text make most old new done ran has =
-      let one = make.0 in
-      let found = as_seen _ _ _ one.seen in
-      let it = turned most text one.some old new done ran in
-      all_made ts (created schema (record t { tree = 0 })) (drop (first_len text) text) make.1 it.most it.mid new done it.rest
-      (creates schema (take (first_len text) text) (record t { tree = 0 }) found.0 found.1 found.2 one.uncounted (state g old) (state g it.mid) it.count it.first.runs has)
+  all_made [] schema [] none most old new done ran has = subst (λ h. HasNoRows schema (state g h).now) (sym ran.1) has
+  all_made [] schema (b ∷ more) none most old new done ran has = absurd (cc none)
+  all_made (t ∷ ts) schema [] make most old new done ran has = absurd (let some = make.0.some in cc)
+  all_made (t ∷ ts) schema (b ∷ more) make zero old new done ran has = absurd ran
+  all_made (t ∷ ts) schema (b ∷ more) make (suc most) old new done (inl failed) has = absurd (let no = failed.1 in cc)
+  all_made (t ∷ ts) schema (b ∷ more) make (suc most) old new done (inr (mid, count, first, rest, stays)) has =
+      let text = b ∷ more in
+      let found = as_seen _ _ _ make.0.seen in
+      all_made ts (created schema (record t { tree = 0 })) (drop (first_len text) text) make.1 most mid new done rest
+      (creates schema (take (first_len text) text) (record t { tree = 0 }) found.0 found.1 found.2 make.0.uncounted (state g old) (state g mid) count first.runs has)
 
 -- ---- the text of the tables
+
+-- what CREATE TABLE makes of the tables, which get their trees by it
+made_is_our_schema : fold (λ made t. created made (record t { tree = 0 })) no_schema our_tables ≡ our_schema
+unfolding digits
+made_is_our_schema = refl
 
 tables_make : MakeAll no_schema TABLES.now our_tables
 unfolding understood everything

@@ -1,38 +1,18 @@
 -- What a query for a whole table shows.
-use Rattle.std.proofs.Common.{◌≡◌, Less, ℕ, List, [], ◌∷◌, ◌++◌, map, filter, false, Ok, Err, Result, refl, sym, ap, ap₂, ◌∙◌, subst, IsPermutation}
+use Rattle.std.proofs.Common.{◌≡◌, Less, ℕ, List, [], ◌++◌, map, filter, false, Ok, Err, Result, refl, sym, ap, ◌∙◌, subst, IsPermutation, map-id}
 use Rattle.std.specs.List.{range_with_len}
 use Rattle.std.proofs.lemmas.List.Sorted.{IsPermutation-refl, IsPermutation-map}
-use Rattle.sqlite_value.specs.declared.value.Value.TheVariants.{Null}
-use Rattle.sqlite_value.specs.declared.keys.Key.{Key}
-use Rattle.sqlite_value.specs.Order.{Row}
-use Rattle.sqlite_trees.specs.Tree.{Trees, IsAscending}
+use Rattle.bsp_store_base.specs.Sqlite.{Begins, Command, CompileError, Compiled, IsAnswer, IsAscending, IsUnchanged, Key, Null, Output, Query, Row, Select, Shown, State, Term, Trees, col, output_cmp, overlay, reads_listing, timed, understood}
 use Rattle.sqlite_trees.proofs.ListLemmas.{map-map, filter_all, all_of}
-use Rattle.sqlite_keyed.proofs.ListLemmas.{ascending-map}
-use Rattle.sqlite_sql.specs.Term.{Term, col}
-use Rattle.sqlite_sql.specs.Query.{IsAnswer, Output, Query, output_cmp}
-use Rattle.sqlite_sql.specs.Program.{overlay}
-use Rattle.sqlite_schema.specs.declared.command.Command.TheVariants.{Select}
-use Rattle.sqlite_resolve.specs.declared.compiled.Compiled.{Compiled}
-use Rattle.sqlite_resolve.specs.declared.error.CompileError.{CompileError}
-use Rattle.sqlite.specs.Clock.{timed}
-use Rattle.sqlite.specs.Listing.{understood, reads_listing}
-use Rattle.sqlite.specs.State.{State, Begins, IsUnchanged, Shown}
+use Rattle.sqlite_keyed.proofs.ListLemmas.{ascending-map, map_same}
 use Rattle.sqlite.proofs.Callers.{EndsIn, reads_as, IsPlain, begins_shown, command_of}
 use Rattle.bsp_store_base.specs.Schema.{our_schema}
 use Rattle.bsp_store_base.specs.Content.{Content, form, width_of}
 use Rattle.bsp_store_base.specs.Forms.{IsFormed}
 use Rattle.bsp_store_base.specs.Kept.{KeepsRows, Part, columns_of}
-use Rattle.bsp_store_base.specs.Shows.{AreAllOf, IsQuery, ShowsTable}
+use Rattle.bsp_store_base.specs.Shows.{AreAllOf, IsCommand, IsQuery, ShowsTable}
 use Rattle.bsp_store_base.proofs.Rising.{keys_of, IsBefore}
 use Rattle.bsp_store_base.proofs.ReadingLemmas.{simple, passes, out, rows_are, rows_in_order}
-
-same_maps : {A B : Type 0} (f g : A → B) → ((x : A) → f x ≡ g x) → (xs : List A) → map f xs ≡ map g xs
-same_maps f g same [] = refl
-same_maps f g same (x ∷ xs) = ap₂ ◌∷◌ (same x) (same_maps f g same xs)
-
-same_all : {A : Type 0} (xs : List A) → map (λ x. x) xs ≡ xs
-same_all [] = refl
-same_all (x ∷ xs) = ap (λ l. x ∷ l) (same_all xs)
 
 -- SELECT all columns FROM t ORDER BY ..
 module _ (tree width : ℕ) (order : List (Term × Key)) (plain_tree : (db : Trees) → overlay db [] tree ≡ db tree)
@@ -46,7 +26,7 @@ module _ (tree width : ℕ) (order : List (Term × Key)) (plain_tree : (db : Tre
       let f = out tree [] project order trees [] in
       let kept = filter_all (passes tree [] project order trees []) (trees tree) (all_of _ (λ r. refl) (trees tree)) in
       subst (λ (l : List Row). IsPermutation l rows)
-      (ap (λ (l : List Row). map (λ (o : Output). o.1) (map f l)) kept ∙ map-map (λ (o : Output). o.1) f (trees tree) ∙ same_maps (λ r. (f r).1) (columns_of width) (lists trees) (trees tree) ∙ ap (map (columns_of width)) (plain_tree db))
+      (ap (λ (l : List Row). map (λ (o : Output). o.1) (map f l)) kept ∙ map-map (λ (o : Output). o.1) f (trees tree) ∙ map_same (λ r. (f r).1) (columns_of width) (lists trees) (trees tree) ∙ ap (map (columns_of width)) (plain_tree db))
       (rows_are tree [] project order trees [] rows a (map f (filter (passes tree [] project order trees []) (trees tree))) (IsPermutation-refl _))
 
   abbrev shown_as : Row → Output
@@ -59,18 +39,18 @@ module _ (tree width : ℕ) (order : List (Term × Key)) (plain_tree : (db : Tre
         let f = out tree [] project order trees [] in
         let kept = filter_all (passes tree [] project order trees []) (trees tree) (all_of _ (λ r. refl) (trees tree)) in
         let outs : map shown_as (map (columns_of width) (db tree)) ≡ map f (filter (passes tree [] project order trees []) (trees tree)) =
-        map-map shown_as (columns_of width) (db tree) ∙ same_maps (λ r. shown_as (columns_of width r)) f (λ r i. (sym (sees trees r) i, sym (lists trees r) i)) (db tree) ∙ ap (map f) (sym (plain_tree db) ∙ sym kept) in
+        map-map shown_as (columns_of width) (db tree) ∙ map_same (λ r. shown_as (columns_of width r)) f (λ r i. (sym (sees trees r) i, sym (lists trees r) i)) (db tree) ∙ ap (map f) (sym (plain_tree db) ∙ sym kept) in
         rows_in_order tree [] project order trees [] rows a (map shown_as xs) (ascending-map (λ x y. output_cmp (simple tree [] project order) x y ≡ Less) shown_as xs up)
         (subst (IsPermutation (map shown_as xs)) outs (IsPermutation-map shown_as _ _ same))
-        ∙ map-map (λ (o : Output). o.1) shown_as xs ∙ same_all xs
+        ∙ map-map (λ (o : Output). o.1) shown_as xs ∙ map-id xs
 
 query_is : (r : Result Compiled CompileError) (query : Query) (names : List (List ℕ)) → command_of r ≡ Select (record { lets = []; body = query }) names → IsQuery r query names
 query_is (Ok c) query names is = is
 query_is (Err e) query names is = absurd (cc is)
 
-command_is : (r : Result Compiled CompileError) (query : Query) (names : List (List ℕ)) → IsQuery r query names → command_of r ≡ Select (record { lets = []; body = query }) names
-command_is (Ok c) query names is = is
-command_is (Err e) query names is = absurd is
+pub command_is : (r : Result Compiled CompileError) (command : Command) → IsCommand r command → command_of r ≡ command
+command_is (Ok c) command is = is
+command_is (Err e) command is = absurd is
 
 -- a text for the rows of one of our tables
 pub table_shown : (part : Part Content) (sql : List ℕ) (names : List (List ℕ)) (order : List (Term × Key))
@@ -99,11 +79,11 @@ module _ (part : Part Content) (sql : List ℕ) (shows : ShowsTable part sql) wh
   -- the rows that are shown are all
   pub whole_shown : (old new : State) → old.now.schema ≡ our_schema → (rows : List Row) → Shown sql [] old new rows → AreAllOf part old.now.trees rows
   whole_shown old new has rows shown =
-      shows.all old.now.trees rows ((reads_as sql [] old new our_schema has _ (command_is (understood our_schema sql) shows.query shows.names shows.is) shows.plain shows.unlisted rows shown).answer Null)
+      shows.all old.now.trees rows ((reads_as sql [] old new our_schema has _ (command_is (understood our_schema sql) _ shows.is) shows.plain shows.unlisted rows shown).answer Null)
 
   -- the rows that were read so far are the first of all
   pub rest_shown : (old new : State) → old.now.schema ≡ our_schema → IsUnchanged old new → (rows : List Row) → Begins sql [] old rows → (tail : List Row) × Shown sql [] old new (rows ++ tail)
   rest_shown old new has unchanged rows first =
       begins_shown sql [] old new rows first unchanged
       (λ compiled db it source.
-      subst (λ k. EndsIn k db (timed [] compiled.formats it.now)) (sym (ap command_of (sym (ap (λ s. understood s sql) (sym has) ∙ it.is)) ∙ command_is (understood our_schema sql) shows.query shows.names shows.is)) tt)
+      subst (λ k. EndsIn k db (timed [] compiled.formats it.now)) (sym (ap command_of (sym (ap (λ s. understood s sql) (sym has) ∙ it.is)) ∙ command_is (understood our_schema sql) _ shows.is)) tt)

@@ -1,18 +1,12 @@
 -- Codes in decimal digits, as ORDER BY compares them, and the rows of a table in that order.
-use Rattle.std.proofs.Common.{◌≡◌, ℕ, zero, suc, ◌+◌, ◌/◌, ◌%◌, ◌^◌, ◌<◌, List, [], ◌∷◌, ◌++◌, map, length, Bool, true, false, refl, sym, ap₂, ◌∙◌, arith, Ordering, Less, Equal, Greater, nat_cmp, int_cmp}
-use Rattle.std.specs.Prelude.{pos}
+use Rattle.std.proofs.Common.{◌≡◌, ℕ, zero, suc, ◌+◌, ◌/◌, ◌%◌, ◌^◌, ◌<◌, List, [], ◌∷◌, ◌++◌, map, length, Bool, true, false, refl, sym, ap, ap₂, ◌∙◌, arith, Ordering, Less, Equal, Greater, nat_cmp, int_cmp, pos, lt-ltb}
 use Rattle.std.specs.Ordering.{bool_cmp, ordering_then}
 use Rattle.std.specs.Cmp.Lexicographic.{slice_cmp}
 use Rattle.std.specs.List.{AllByRecursion}
-use Rattle.std.proofs.lemmas.Bool.{lt-ltb}
 use Rattle.std.proofs.lemmas.Bool.Decides.{nat_tests}
-use Rattle.sqlite_value.specs.declared.value.Value.TheVariants.{Text}
-use Rattle.sqlite_value.specs.declared.keys.Key.{Key}
-use Rattle.sqlite_value.specs.Order.{Row, value_cmp}
+use Rattle.bsp_store_base.specs.Sqlite.{IsAscending, Key, Row, Term, Text, value_cmp}
 use Rattle.sqlite_value.proofs.OrderLemmas.{value_cmp-Text, value_cmp-Int, then-Equal}
-use Rattle.sqlite_trees.specs.Tree.{IsAscending}
 use Rattle.sqlite_trees.proofs.ListLemmas.{all_of}
-use Rattle.sqlite_sql.specs.Term.{Term}
 use Rattle.bsp_rows.specs.Decimal.{fixed_digits}
 use Rattle.bsp_rows.proofs.DecimalLemmas.{length-fixed_digits}
 use Rattle.bsp_store_base.specs.Columns.{code_digits, flag, count, placed}
@@ -21,18 +15,17 @@ use Rattle.bsp_store_base.proofs.Keys.{code_digits-fits}
 
 -- ---- one column
 
+then_assoc : (a b c : Ordering) → ordering_then a (ordering_then b c) ≡ ordering_then (ordering_then a b) c
+then_assoc Less b c = refl
+then_assoc Equal b c = refl
+then_assoc Greater b c = refl
+
 -- texts of one length, and what follows them
 slice_cmp-append : (xs ys us vs : List ℕ) → length xs ≡ length ys → slice_cmp nat_cmp (xs ++ us) (ys ++ vs) ≡ ordering_then (slice_cmp nat_cmp xs ys) (slice_cmp nat_cmp us vs)
 slice_cmp-append [] [] us vs same = refl
 slice_cmp-append [] (y ∷ ys) us vs same = absurd (omega arith)
 slice_cmp-append (x ∷ xs) [] us vs same = absurd (omega arith)
-slice_cmp-append (x ∷ xs) (y ∷ ys) us vs same = go (nat_cmp x y) (slice_cmp-append xs ys us vs (omega arith))
-  where
-    go : (o : Ordering) → slice_cmp nat_cmp (xs ++ us) (ys ++ vs) ≡ ordering_then (slice_cmp nat_cmp xs ys) (slice_cmp nat_cmp us vs)
-        → ordering_then o (slice_cmp nat_cmp (xs ++ us) (ys ++ vs)) ≡ ordering_then (ordering_then o (slice_cmp nat_cmp xs ys)) (slice_cmp nat_cmp us vs)
-    go Less more = refl
-    go Equal more = more
-    go Greater more = refl
+slice_cmp-append (x ∷ xs) (y ∷ ys) us vs same = ap (ordering_then (nat_cmp x y)) (slice_cmp-append xs ys us vs (omega arith)) ∙ then_assoc (nat_cmp x y) (slice_cmp nat_cmp xs ys) (slice_cmp nat_cmp us vs)
 
 -- two numbers are compared by all digits but the last, and then by the last
 by_tens : (a b : ℕ) → ordering_then (nat_cmp (a / 10) (b / 10)) (nat_cmp (48 + a % 10) (48 + b % 10)) ≡ nat_cmp a b

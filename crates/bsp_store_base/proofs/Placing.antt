@@ -19,6 +19,10 @@ placed_next xs x =
 pub one_more : {A : Type 0} (xs : List A) (i : ℕ) (x : A) → i < length xs → x ≡ get_or xs i x → take i xs ++ x ∷ [] ≡ take (i + 1) xs
 one_more xs i x below is = ap (λ y. take i xs ++ y ∷ []) is ∙ sym (take_more xs i x below)
 
+pub placed_taken : {A : Type 0} (xs : List A) (i : ℕ) (x : A) → i < length xs → x ≡ get_or xs i x → placed 0 (take (i + 1) xs) ≡ placed 0 (take i xs) ++ (i + 1, x) ∷ []
+placed_taken xs i x below is =
+    ap (placed 0) (sym (one_more xs i x below is)) ∙ placed_next (take i xs) x ∙ ap (λ (n : ℕ). placed 0 (take i xs) ++ (n + 1, x) ∷ []) (length-take-le i xs (omega arith))
+
 -- the place of the next one
 pub next_place : {A : Type 0} (xs : List A) (i : ℕ) → i < length xs → i + 1 ≡ length (take i xs) + 1
 next_place xs i below = ap (λ (n : ℕ). n + 1) (sym (length-take-le i xs (omega arith)))

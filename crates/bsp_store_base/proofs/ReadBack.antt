@@ -1,8 +1,6 @@
 -- What is written into a column is read back of it.
-use Rattle.std.proofs.Common.{◌≡◌, ℕ, ℤ, ◌<◌, ◌/◌, ◌%◌, ◌^◌, Some, refl}
-use Rattle.std.specs.Prelude.{unsigned_abs}
-use Rattle.std.proofs.lemmas.Bool.{le-leb, lt-ltb}
-use Rattle.sqlite_value.specs.declared.value.Value.TheVariants.{Int, Text}
+use Rattle.std.proofs.Common.{◌≡◌, ℕ, ℤ, ◌<◌, ◌/◌, ◌%◌, ◌^◌, Some, refl, unsigned_abs, le-leb, lt-ltb}
+use Rattle.bsp_store_base.specs.Sqlite.{Int, Text}
 use Rattle.bsp_rows.specs.Codes.{check_digit_of}
 use Rattle.bsp_rows.specs.Stored.{IsStoredAmount}
 use Rattle.bsp_rows.proofs.CodeLemmas.{agent_reading-fixed_digits, code_reading-fixed_digits}

@@ -1,31 +1,20 @@
 -- A query over one table, read through a view of its rows.
-use Rattle.std.proofs.Common.{◌≡◌, ℕ, ℤ, List, [], ◌∷◌, map, filter, Bool, true, false, not, ◌||◌, cond, refl, sym, ap, ◌∙◌, subst, true≢false, Ordering, Less, Equal, Greater, is_eq, IsPermutation, ap₂}
+use Rattle.std.proofs.Common.{◌≡◌, ℕ, ℤ, List, [], ◌∷◌, map, filter, Bool, true, false, not, ◌||◌, cond, inl, inr, refl, sym, ap, ◌∙◌, subst, subst₂, true≢false, Ordering, Less, Equal, Greater, is_eq, IsPermutation, ap₂}
 use Rattle.std.specs.List.{list_all, list_any, flat_map, AllByRecursion}
-use Rattle.std.specs.Ordering.{ordering_reverse}
 use Rattle.std.proofs.lemmas.List.Sorted.{IsPermutation-trans, IsPermutation-sym, IsPermutation-map, IsPermutation-refl, IsPermutation-cons, IsPermutation-middle, list_any-IsPermutation}
+use Rattle.std.proofs.lemmas.Bool.{cases_Bool}
 use Rattle.std.proofs.lemmas.Cmp.{tied_itself}
-use Rattle.sqlite_value.specs.declared.value.Value.TheVariants.{Null}
-use Rattle.sqlite_value.specs.declared.keys.Key.{Key}
-use Rattle.sqlite_value.specs.Order.{Row, value_cmp}
+use Rattle.bsp_store_base.specs.Sqlite.{IsAnswer, IsAscending, IsTable, Key, Null, Output, Query, Row, Term, Trees, has_rowid, holds, id_in, is_int, is_taken, output, output_cmp, put_row, rowid, value_cmp, without_all, without_rowid}
 use Rattle.sqlite_value.proofs.OrderLemmas.{value_cmp_total}
-use Rattle.sqlite_trees.specs.Tree.{Trees, IsAscending, IsTable, rowid, has_rowid, put_row, without_rowid}
-use Rattle.sqlite_trees.specs.View.{is_int}
-use Rattle.sqlite_trees.proofs.ListLemmas.{map-map, filter_same, filter_all, all_of, all_both, all_weaker, all-filter, IsPermutation-filter}
-use Rattle.sqlite_sql.specs.Term.{Term, holds}
-use Rattle.sqlite_sql.specs.Query.{Query, IsAnswer, Output, output, output_cmp}
+use Rattle.sqlite_trees.proofs.ListLemmas.{filter-map, map-map, filter_same, filter_all, all_of, all_both, all_weaker, all-filter, IsPermutation-filter}
 use Rattle.sqlite_sql.proofs.QueryLemmas.{output_cmp_total}
-use Rattle.sqlite_rules.specs.Edit.{id_in, without_all, is_taken}
 use Rattle.sqlite_rules.proofs.TableLemmas.{int_is}
 pub use Rattle.bsp_store_base.specs.Simple.{simple}
 use Rattle.sqlite_keyed.proofs.SortLemmas.{sorted_unique}
 
 flat_map_if : {A B : Type 0} (p : A → Bool) (f : A → B) (xs : List A) → flat_map (λ x. cond (p x) (f x ∷ []) []) xs ≡ map f (filter p xs)
 flat_map_if p f [] = refl
-flat_map_if p f (x ∷ xs) = go (p x) refl (flat_map_if p f xs)
-  where
-    go : (b : Bool) → p x ≡ b → flat_map (λ y. cond (p y) (f y ∷ []) []) xs ≡ map f (filter p xs) → flat_map (λ y. cond (p y) (f y ∷ []) []) (x ∷ xs) ≡ map f (filter p (x ∷ xs))
-    go true e more = rw (e, more)
-    go false e more = rw (e, more)
+flat_map_if p f (x ∷ xs) = let more = flat_map_if p f xs in elim (cases_Bool (p x)) [ inl e ↦ rw (e, more) refl | inr e ↦ rw (e, more) refl ]
 
 module _ (t : ℕ) (test project : List Term) (order : List (Term × Key)) (trees : Trees) (params : Row) where
   abbrev query : Query
@@ -64,28 +53,14 @@ module _ {A B : Type 0} (see : Row → Row) (row_of : A → Row) (p : Row → Bo
   abbrev bare_map : Row → B
   bare_map row = f (Null ∷ row)
 
-  at_rows : (rows : List Row) → map f (filter p rows) ≡ map bare_map (filter bare_test (map see rows))
-  at_rows [] = refl
-  at_rows (r ∷ rows) = go (p r) (tests r) (at_rows rows)
-    where
-      go : (b : Bool) → b ≡ p (Null ∷ see r) → map f (filter p rows) ≡ map bare_map (filter bare_test (map see rows))
-          → map f (cond b (r ∷ filter p rows) (filter p rows)) ≡ map bare_map (cond (p (Null ∷ see r)) (see r ∷ filter bare_test (map see rows)) (filter bare_test (map see rows)))
-      go true e more = rw (sym e) (ap₂ ◌∷◌ (maps r) more)
-      go false e more = rw (sym e) more
-
-  at_values : (xs : List A) → map bare_map (filter bare_test (map row_of xs)) ≡ map g (filter q xs)
-  at_values [] = refl
-  at_values (x ∷ xs) = rw (test_is x) (go (q x) (at_values xs))
-    where
-      go : (b : Bool) → map bare_map (filter bare_test (map row_of xs)) ≡ map g (filter q xs)
-          → map bare_map (cond b (row_of x ∷ filter bare_test (map row_of xs)) (filter bare_test (map row_of xs))) ≡ map g (cond b (x ∷ filter q xs) (filter q xs))
-      go true more = ap₂ ◌∷◌ (map_is x) more
-      go false more = more
+  viewed : {X : Type 0} (view : X → Row) (xs : List X) → map bare_map (filter bare_test (map view xs)) ≡ map (λ x. bare_map (view x)) (filter (λ x. bare_test (view x)) xs)
+  viewed view xs = ap (map bare_map) (filter-map bare_test view xs) ∙ map-map bare_map view (filter (λ x. bare_test (view x)) xs)
 
   pub seen : (xs : List A) (rows : List Row) → IsPermutation (map row_of xs) (map see rows) → IsPermutation (map g (filter q xs)) (map f (filter p rows))
   seen xs rows same =
-      subst (λ l. IsPermutation l (map f (filter p rows))) (at_values xs)
-      (subst (IsPermutation (map bare_map (filter bare_test (map row_of xs)))) (sym (at_rows rows)) (IsPermutation-map bare_map _ _ (IsPermutation-filter bare_test _ _ same)))
+      let values : map bare_map (filter bare_test (map row_of xs)) ≡ map g (filter q xs) = viewed row_of xs ∙ λ i. map (λ x. map_is x i) (filter (λ x. test_is x i) xs) in
+      let shown : map bare_map (filter bare_test (map see rows)) ≡ map f (filter p rows) = viewed see rows ∙ sym (λ i. map (λ r. maps r i) (filter (λ r. tests r i) rows)) in
+      subst₂ IsPermutation values shown (IsPermutation-map bare_map _ _ (IsPermutation-filter bare_test _ _ same))
 
 -- a row that is put at a free rowid
 pub put_fresh : (new : Row) (rows : List Row) → is_taken rows new ≡ false → IsPermutation (new ∷ rows) (put_row new rows)
@@ -107,11 +82,7 @@ Keyed = AllByRecursion (λ r. is_int (rowid r) ≡ true)
 
 not_above : (y : Row) (ys : List Row) (p : Row → Bool) → AllByRecursion (λ z. value_cmp (rowid y) (rowid z) ≡ Less) ys → list_any (same_id y) (filter p ys) ≡ false
 not_above y [] p up = refl
-not_above y (z ∷ ys) p up = go (p z) (not_above y ys p up.1)
-  where
-    go : (b : Bool) → list_any (same_id y) (filter p ys) ≡ false → list_any (same_id y) (cond b (z ∷ filter p ys) (filter p ys)) ≡ false
-    go true more = rw (up.0, more)
-    go false more = more
+not_above y (z ∷ ys) p up = let more = not_above y ys p up.1 in elim (cases_Bool (p z)) [ inl e ↦ rw (e, up.0, more) refl | inr e ↦ rw (e, more) refl ]
 
 -- each row of a table is among those that pass exactly where it passes
 found_again : (p : Row → Bool) (rows : List Row) → IsTable rows → AllByRecursion (λ r. list_any (same_id r) (filter p rows) ≡ p r) rows
@@ -133,21 +104,16 @@ has_ids : (r : Row) (gone : List Row) → Keyed gone → list_any (λ id. has_ro
 has_ids r [] keyed = refl
 has_ids r (x ∷ gone) keyed = ap₂ ◌||◌ (ap (λ v. is_eq (value_cmp (rowid r) v)) (sym (int_is (rowid x) keyed.0))) (has_ids r gone keyed.1)
 
+filter_twice : {A : Type 0} (p q : A → Bool) (xs : List A) → filter (λ x. not (p x)) (filter (λ x. not (q x)) xs) ≡ filter (λ x. not (q x || p x)) xs
+filter_twice p q [] = refl
+filter_twice p q (x ∷ xs) = let more = filter_twice p q xs in elim (cases_Bool (q x)) [
+  | inl gone ↦ rw (gone, more) refl
+  | inr left ↦ elim (cases_Bool (p x)) [ inl e ↦ rw (left, e, more) refl | inr e ↦ rw (left, e, more) refl ]
+]
+
 without_all-filter : (ids : List ℤ) (rows : List Row) → without_all rows ids ≡ filter (λ r. not (list_any (λ id. has_rowid id r) ids)) rows
 without_all-filter [] rows = sym (filter_all _ rows (all_of _ (λ r. refl) rows))
-without_all-filter (id ∷ ids) rows = without_all-filter ids (without_rowid id rows) ∙ both rows
-  where
-    both : (xs : List Row) → filter (λ r. not (list_any (λ id. has_rowid id r) ids)) (filter (λ r. not (has_rowid id r)) xs) ≡ filter (λ r. not (has_rowid id r || list_any (λ id. has_rowid id r) ids)) xs
-    both [] = refl
-    both (x ∷ xs) = go (has_rowid id x) (both xs)
-      where
-        go : (b : Bool) → filter (λ r. not (list_any (λ id. has_rowid id r) ids)) (filter (λ r. not (has_rowid id r)) xs) ≡ filter (λ r. not (has_rowid id r || list_any (λ id. has_rowid id r) ids)) xs
-            → filter (λ r. not (list_any (λ id. has_rowid id r) ids)) (cond (not b) (x ∷ filter (λ r. not (has_rowid id r)) xs) (filter (λ r. not (has_rowid id r)) xs))
-            ≡ cond (not (b || list_any (λ id. has_rowid id x) ids)) (x ∷ filter (λ r. not (has_rowid id r || list_any (λ id. has_rowid id r) ids)) xs) (filter (λ r. not (has_rowid id r || list_any (λ id. has_rowid id r) ids)) xs)
-        go true more = more
-        go false more = elim (list_any (λ id. has_rowid id x) ids) as (λ c. cond (not c) (x ∷ filter (λ r. not (list_any (λ id. has_rowid id r) ids)) (filter (λ r. not (has_rowid id r)) xs)) (filter (λ r. not (list_any (λ id. has_rowid id r) ids)) (filter (λ r. not (has_rowid id r)) xs))
-            ≡ cond (not c) (x ∷ filter (λ r. not (has_rowid id r || list_any (λ id. has_rowid id r) ids)) xs) (filter (λ r. not (has_rowid id r || list_any (λ id. has_rowid id r) ids)) xs))
-            [ true ↦ more | false ↦ ap (λ l. x ∷ l) more ]
+without_all-filter (id ∷ ids) rows = without_all-filter ids (without_rowid id rows) ∙ filter_twice (λ r. list_any (λ i. has_rowid i r) ids) (has_rowid id) rows
 
 -- the rows that pass, found in any order and taken out by their rowids
 pub taken_out : (p : Row → Bool) (rows : List Row) (ids : List ℤ) → IsTable rows → Keyed rows → IsPermutation (ids_in (filter p rows)) ids → without_all rows ids ≡ filter (λ r. not (p r)) rows

@@ -4,12 +4,7 @@ use Rattle.std.specs.List.{AllByRecursion}
 use Rattle.std.specs.FinMap.{FinMap, entries, entries_sorted}
 use Rattle.std.specs.FinMap.Entries.{below_all, is_sorted}
 use Rattle.bsp_maps.proofs.Orderings.{first, second, less}
-use Rattle.sqlite_value.specs.declared.value.Value.TheVariants.{Null}
-use Rattle.sqlite_value.specs.declared.keys.Key.{Key}
-use Rattle.sqlite_value.specs.Order.{Row}
-use Rattle.sqlite_trees.specs.Tree.{IsAscending}
-use Rattle.sqlite_sql.specs.Term.{Term, eval_all}
-use Rattle.sqlite_sql.specs.Query.{key_cmp}
+use Rattle.bsp_store_base.specs.Sqlite.{IsAscending, Key, Null, Row, Term, eval_all, key_cmp}
 
 -- what ORDER BY looks at in a row, whose rowid is left out
 abbrev pub keys_of : List (Term × Key) → Row → Row

@@ -1,6 +1,5 @@
 -- The second related documents of items: what is at a ticket, and what one item more or less makes of them.
-use Rattle.std.proofs.Common.{◌≡◌, Bool, true, false, cond, List, [], ◌∷◌, refl, sym, ap, ap₂, subst, ◌∙◌, Ordering, Less, Equal, Greater, nat_cmp, is_eq}
-use Rattle.std.specs.Prelude.{Option, Some, None, T}
+use Rattle.std.proofs.Common.{◌≡◌, Bool, true, false, cond, List, [], ◌∷◌, refl, sym, ap, ap₂, subst, ◌∙◌, Ordering, Less, Equal, Greater, nat_cmp, is_eq, Option, Some, None, T}
 use Rattle.std.specs.List.{cons_option, filter_map}
 use Rattle.std.specs.Ordering.{bool_cmp, eq_by_cmp, is_lt, ordering_then}
 use Rattle.std.specs.Cmp.{Equal-is, IsTotalOrder, nat_cmp_total, on_total, then_total}
@@ -9,12 +8,9 @@ use Rattle.std.specs.FinMap.Entries.{below_all, is_sorted}
 use Rattle.sqlite_value.proofs.OrderLemmas.{then-Equal}
 use Rattle.bsp_maps.proofs.Orderings.{both, first, none_behind, second, then_equal}
 use Rattle.bsp_rows.specs.GroupValues.{second_of}
-use Rattle.bsp_rows.specs.Item.{Item}
-use Rattle.bsp_rows.specs.ReportedDocument.{ReportedDocument}
+use Rattle.bsp_store_base.specs.Entries.{Item, ItemKey, ReportedDocument, TicketKey}
 use Rattle.bsp_rows.specs.Rows.{item_cmp}
-use Rattle.bsp_rows.specs.declared.keys.ItemKey.{ItemKey}
 use Rattle.bsp_rows.proofs.KeyOrders.{item_total}
-use Rattle.bsp_store_base.specs.declared.tickets.TicketKey.{TicketKey}
 use Rattle.bsp_store_base.specs.Seconds.{sale_at, second_entry, second_in, second_pair, seconds_of, ticket, ticket_cmp, with_second}
 use Rattle.bsp_store_base.specs.Synced.{with_value}
 use Rattle.bsp_store_base.proofs.Syncing.{get-with_value}
@@ -50,33 +46,33 @@ no_canx t k is =
     ap (λ b. is_eq (ordering_then (nat_cmp t.agent k.agent) (ordering_then (nat_cmp t.number k.number) (bool_cmp false b)))) is
     ∙ apart (nat_cmp t.agent k.agent) (nat_cmp t.number k.number)
 
--- ---- the second documents of sorted entries
+second_cond : (b : Bool) (v w : Option Item) → second_in (cond b v w) ≡ cond b (second_in v) (second_in w)
+second_cond true v w = refl
+second_cond false v w = refl
 
-module _ (x : ItemKey) (sale : x.is_canx ≡ false) (e : ItemKey × Item) (es : List (ItemKey × Item)) (up : T (below_all item_cmp x (e ∷ es))) (rest : T (below_all ticket_cmp (ticket x) (filter_map second_entry es))) where
-  below_step : (b : Bool) → e.0.is_canx ≡ b → (d : Option ReportedDocument) → T (below_all ticket_cmp (ticket x) (cons_option (second_pair b (ticket e.0) d) (filter_map second_entry es)))
-  below_step true is d = rest
-  below_step false is None = rest
-  below_step false is (Some d) =
-      both (is_lt (ticket_cmp (ticket x) (ticket e.0))) (below_all ticket_cmp (ticket x) (filter_map second_entry es))
-      (subst (λ r. T (is_lt r)) (sales_alike x e.0 sale is) (first (is_lt (item_cmp x e.0)) (below_all item_cmp x es) up)) rest
+-- ---- the second documents of sorted entries
 
 below_seconds : (x : ItemKey) → x.is_canx ≡ false → (es : List (ItemKey × Item)) → T (below_all item_cmp x es) → T (below_all ticket_cmp (ticket x) (filter_map second_entry es))
 below_seconds x sale [] up = tt
-below_seconds x sale (e ∷ es) up =
-    below_step x sale e es up (below_seconds x sale es (second (is_lt (item_cmp x e.0)) (below_all item_cmp x es) up)) e.0.is_canx refl (second_of e.1.transaction)
-
-module _ (e : ItemKey × Item) (es : List (ItemKey × Item)) (up : T (is_sorted item_cmp (e ∷ es))) (rest : T (is_sorted ticket_cmp (filter_map second_entry es))) where
-  sorted_step : (b : Bool) → e.0.is_canx ≡ b → (d : Option ReportedDocument) → T (is_sorted ticket_cmp (cons_option (second_pair b (ticket e.0) d) (filter_map second_entry es)))
-  sorted_step true is d = rest
-  sorted_step false is None = rest
-  sorted_step false is (Some d) =
-      both (below_all ticket_cmp (ticket e.0) (filter_map second_entry es)) (is_sorted ticket_cmp (filter_map second_entry es))
-      (below_seconds e.0 is es (first (below_all item_cmp e.0 es) (is_sorted item_cmp es) up)) rest
+below_seconds x sale (e ∷ es) up = go (below_seconds x sale es (second (is_lt (item_cmp x e.0)) (below_all item_cmp x es) up)) e.0.is_canx refl (second_of e.1.transaction)
+  where
+    go : T (below_all ticket_cmp (ticket x) (filter_map second_entry es)) → (b : Bool) → e.0.is_canx ≡ b → (d : Option ReportedDocument) → T (below_all ticket_cmp (ticket x) (cons_option (second_pair b (ticket e.0) d) (filter_map second_entry es)))
+    go rest true is d = rest
+    go rest false is None = rest
+    go rest false is (Some d) =
+        both (is_lt (ticket_cmp (ticket x) (ticket e.0))) (below_all ticket_cmp (ticket x) (filter_map second_entry es))
+        (subst (λ r. T (is_lt r)) (sales_alike x e.0 sale is) (first (is_lt (item_cmp x e.0)) (below_all item_cmp x es) up)) rest
 
 sorted_seconds : (es : List (ItemKey × Item)) → T (is_sorted item_cmp es) → T (is_sorted ticket_cmp (filter_map second_entry es))
 sorted_seconds [] up = tt
-sorted_seconds (e ∷ es) up =
-    sorted_step e es up (sorted_seconds es (second (below_all item_cmp e.0 es) (is_sorted item_cmp es) up)) e.0.is_canx refl (second_of e.1.transaction)
+sorted_seconds (e ∷ es) up = go (sorted_seconds es (second (below_all item_cmp e.0 es) (is_sorted item_cmp es) up)) e.0.is_canx refl (second_of e.1.transaction)
+  where
+    go : T (is_sorted ticket_cmp (filter_map second_entry es)) → (b : Bool) → e.0.is_canx ≡ b → (d : Option ReportedDocument) → T (is_sorted ticket_cmp (cons_option (second_pair b (ticket e.0) d) (filter_map second_entry es)))
+    go rest true is d = rest
+    go rest false is None = rest
+    go rest false is (Some d) =
+        both (below_all ticket_cmp (ticket e.0) (filter_map second_entry es)) (is_sorted ticket_cmp (filter_map second_entry es))
+        (below_seconds e.0 is es (first (below_all item_cmp e.0 es) (is_sorted item_cmp es) up)) rest
 
 module _ (t : TicketKey) (e : ItemKey × Item) (es : List (ItemKey × Item)) (up : T (below_all item_cmp e.0 es))
     (rest : find ticket_cmp t (filter_map second_entry es) ≡ second_in (find item_cmp (sale_at t) es)) where
@@ -86,18 +82,13 @@ module _ (t : TicketKey) (e : ItemKey × Item) (es : List (ItemKey × Item)) (up
   without true tie none = rest ∙ ap second_in (none_behind item_cmp item_total (sale_at t) e.0 es ((Equal-is (item_cmp (sale_at t) e.0)).0 tie) up) ∙ sym none
   without false tie none = rest
 
-  with_one : (d : ReportedDocument) (tie : Bool) → second_of e.1.transaction ≡ Some d
-      → cond tie (Some d) (find ticket_cmp t (filter_map second_entry es)) ≡ second_in (cond tie (Some e.1) (find item_cmp (sale_at t) es))
-  with_one d true is = sym is
-  with_one d false is = rest
-
   one_step : (b : Bool) → e.0.is_canx ≡ b → (o : Option ReportedDocument) → second_of e.1.transaction ≡ o
       → find ticket_cmp t (cons_option (second_pair b (ticket e.0) o) (filter_map second_entry es)) ≡ second_in (cond (eq_by_cmp item_cmp (sale_at t) e.0) (Some e.1) (find item_cmp (sale_at t) es))
   one_step true canx o is = rest ∙ ap (λ b. second_in (cond b (Some e.1) (find item_cmp (sale_at t) es))) (sym (no_canx t e.0 canx))
   one_step false sale None is = without (eq_by_cmp item_cmp (sale_at t) e.0) refl is
   one_step false sale (Some d) is =
       ap (λ r. cond (is_eq r) (Some d) (find ticket_cmp t (filter_map second_entry es))) (sym (sales_alike (sale_at t) e.0 refl sale))
-      ∙ with_one d (eq_by_cmp item_cmp (sale_at t) e.0) is
+      ∙ ap₂ (cond (eq_by_cmp item_cmp (sale_at t) e.0)) (sym is) rest ∙ sym (second_cond (eq_by_cmp item_cmp (sale_at t) e.0) (Some e.1) (find item_cmp (sale_at t) es))
 
 find_second : (t : TicketKey) (es : List (ItemKey × Item)) → T (is_sorted item_cmp es) → find ticket_cmp t (filter_map second_entry es) ≡ second_in (find item_cmp (sale_at t) es)
 find_second t [] up = refl
@@ -119,10 +110,6 @@ get-seconds_of m t =
     ∙ find_second t (entries m) (entries_sorted m) ∙ ap second_in (sym (get-entries m (sale_at t)))
 
 -- ---- one item more or less
-
-second_cond : (b : Bool) (v w : Option Item) → second_in (cond b v w) ≡ cond b (second_in v) (second_in w)
-second_cond true v w = refl
-second_cond false v w = refl
 
 module _ (m : FinMap item_cmp Item) (k : ItemKey) (v : Option Item) where
   at : (t : TicketKey) → get (seconds_of (with_value k v m)) t ≡ cond (eq_by_cmp item_cmp (sale_at t) k) (second_in v) (get (seconds_of m) t)

@@ -1,5 +1,5 @@
 -- A map brought up to another one at some keys, and the rows of a map's table.
-use Rattle.std.proofs.Common.{◌≡◌, Bool, true, false, cond, not, ◌||◌, List, [], ◌∷◌, map, Option, Some, None, refl, sym, ap, ◌∙◌, subst, Ordering, Less, Equal, Greater, is_eq, filter, IsPermutation}
+use Rattle.std.proofs.Common.{◌≡◌, Bool, true, false, cond, not, ◌||◌, List, [], ◌∷◌, map, Option, Some, None, is_some, inl, inr, refl, sym, ap, ◌∙◌, subst, Ordering, Less, Equal, Greater, is_eq, filter, IsPermutation}
 use Rattle.std.specs.List.{list_any}
 use Rattle.std.specs.Ordering.{eq_by_cmp}
 use Rattle.std.specs.Cmp.{Equal-is, IsTotalOrder, eq_by_cmp_equiv, alike_right, tied_itself}
@@ -7,6 +7,8 @@ use Rattle.std.specs.FinMap.{FinMap, IsAntisymmetric, get, insert, remove, entri
 use Rattle.std.specs.FinMap.Entries.{find, put, by_order, where_key, is_sorted-where_key, find-where_key, same_entries}
 use Rattle.std.proofs.lemmas.List.Sorted.{IsPermutation-trans, IsPermutation-sym, IsPermutation-refl, IsPermutation-cons, IsPermutation-middle, IsPermutation-map}
 use Rattle.sqlite_trees.proofs.ListLemmas.{IsPermutation-filter}
+use Rattle.std.proofs.lemmas.Bool.{cases_Bool}
+use Rattle.bsp_maps.proofs.UndoLemmas.{put_back_same}
 use Rattle.bsp_store_base.proofs.Alone.{alone}
 use Rattle.bsp_store_base.specs.Synced.{with_value, synced}
 
@@ -82,27 +84,15 @@ module _ {K X : Type 0} (R : K → K → Ordering) (o : IsTotalOrder R) where
 
   -- what is there is put in again
   put_same : IsAntisymmetric R → (m : FinMap R X) (k : K) (v : X) → get m k ≡ Some v → insert m k v ≡ m
-  put_same exact m k v is = same_map o exact _ _ (λ q. get-insert o m k v q ∙ at (eq_by_cmp R q k) q refl)
-    where
-      at : (b : Bool) (q : K) → eq_by_cmp R q k ≡ b → cond b (Some v) (get m q) ≡ get m q
-      at true q tie = sym is ∙ get_tied o m q k ((Equal-is (R q k)).0 tie)
-      at false q tie = refl
+  put_same exact m k v is = sym (ap (λ b. cond b (insert m k v) m) (ap is_some is)) ∙ put_back_same o exact m k (Some v) is
 
   -- none is taken out where there is none
   pub remove_none : IsAntisymmetric R → (m : FinMap R X) (k : K) → get m k ≡ None → remove m k ≡ m
-  remove_none exact m k none = same_map o exact _ _ (λ q. get-remove o m k q ∙ at (eq_by_cmp R q k) q refl)
-    where
-      at : (b : Bool) (q : K) → eq_by_cmp R q k ≡ b → cond b None (get m q) ≡ get m q
-      at true q tie = sym none ∙ get_tied o m q k ((Equal-is (R q k)).0 tie)
-      at false q tie = refl
+  remove_none exact m k none = put_back_same o exact m k None none
 
   no_more : (p : K × X → Bool) (es : List (K × X)) → filter p (filter (λ e. not (p e)) es) ≡ []
   no_more p [] = refl
-  no_more p (e ∷ es) = go (p e) refl (no_more p es)
-    where
-      go : (b : Bool) → p e ≡ b → filter p (filter (λ x. not (p x)) es) ≡ [] → filter p (cond (not b) (e ∷ filter (λ x. not (p x)) es) (filter (λ x. not (p x)) es)) ≡ []
-      go true is more = more
-      go false is more = rw is more
+  no_more p (e ∷ es) = let more = no_more p es in elim (cases_Bool (p e)) [ inl is ↦ rw (is, more) refl | inr is ↦ rw (is, is, more) refl ]
 
   -- the one entry of a key
   pub one_there : IsAntisymmetric R → (m : FinMap R X) (k : K) (v : X) → get m k ≡ Some v → filter (λ e. eq_by_cmp R k e.0) (entries m) ≡ (k, v) ∷ []

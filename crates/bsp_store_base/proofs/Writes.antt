@@ -1,24 +1,15 @@
 -- What a write to one of our tables ensures, whichever table it is.
-use Rattle.std.proofs.Common.{◌≡◌, ℕ, ◌==◌, Bool, true, false, List, [], length, Ok, Err, Result, OnOk, OnErr, refl}
+use Rattle.std.proofs.Common.{◌≡◌, ℕ, ◌==◌, List, [], inl, inr, length, Ok, Err, Result, OnOk, OnErr, refl}
 use Rattle.std.specs.Prelude.{⊤}
-use Rattle.sqlite_value.specs.Order.{Row}
-use Rattle.sqlite_trees.specs.declared.store.Store.{Ghosts}
-use Rattle.sqlite_schema.specs.declared.schema.Keys.TheVariants.{Enforced}
-use Rattle.sqlite_rules.specs.Action.{works}
-use Rattle.sqlite.specs.declared.error.Error.{Error}
-use Rattle.sqlite.specs.State.{HasCleanDisk, Survives, CommitsBy, Executes}
-use Rattle.sqlite.specs.Held.{Held, state}
+use Rattle.std.proofs.lemmas.Bool.{cases_Bool}
+use Rattle.bsp_store_base.specs.Sqlite.{CommitsBy, Enforced, Error, Executes, Ghosts, HasCleanDisk, Held, Row, Survives, state, works}
 use Rattle.bsp_store_base.specs.Calls.{Changes, GivesUp}
 use Rattle.bsp_store_base.specs.Schema.{our_schema}
 use Rattle.bsp_store_base.specs.Content.{Content}
 
 -- no foreign key acts: each has NO ACTION
-no_deed : (tree : ℕ) (olds news : List Row) (deletes : Bool) → (length news == 0) ≡ deletes → works our_schema Enforced 0 tree olds news ≡ []
-no_deed tree olds news true is = rw is refl
-no_deed tree olds news false is = rw is refl
-
 pub no_work : (tree : ℕ) (olds news : List Row) → works our_schema Enforced 0 tree olds news ≡ []
-no_work tree olds news = no_deed tree olds news (length news == 0) refl
+no_work tree olds news = elim (cases_Bool (length news == 0)) [ inl is ↦ rw is refl | inr is ↦ rw is refl ]
 
 module _ {S : Type 0} (g : Ghosts S) (old new : Held S) where
   -- what a write of this text, with these parameters, ensures of a content that meets a condition

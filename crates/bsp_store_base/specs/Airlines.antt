@@ -3,7 +3,7 @@ use Rattle.std.specs.Prelude.{ℕ, ◌<◌, ◌^◌, ◌==◌, if◌then◌else�
 use Rattle.std.specs.FinMap.{FinMap, entries, from_entries, get, insert}
 use Rattle.std.specs.Option.{ForSome, option_or}
 use Rattle.std.specs.Ordering.{nat_cmp}
-use Rattle.bsp_store_base.specs.declared.airlines.AirlineEntry.{AirlineEntry}
+use Rattle.bsp_store_base.specs.Entries.{AirlineEntry}
 use Rattle.bsp_store_base.specs.Columns.{placed}
 
 -- its place, if it has one, is an integer of a store

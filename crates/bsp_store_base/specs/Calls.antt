@@ -1,6 +1,5 @@
 -- What calls make of a connection whose tables keep a content.
-use Rattle.sqlite.specs.Held.{Held}
-use Rattle.sqlite_trees.specs.declared.store.Store.{Ghosts}
+use Rattle.bsp_store_base.specs.Sqlite.{Ghosts, Held}
 use Rattle.bsp_store_base.specs.Content.{Content, form}
 use Rattle.bsp_store_base.specs.Kept.{HasCommitted, IsInside, IsOutside, HasContents}
 

@@ -1,33 +1,15 @@
 -- What the book keeps, as rows of tables: each entry is one row, a value for each column.
 use Rattle.std.specs.Prelude.{ℕ, suc, ◌+◌, ◌^◌, nat_lt, pos, Bool, if◌then◌else◌, List, [], ◌∷◌, map, Option, Some, None}
 use Rattle.std.specs.List.{concat}
-use Rattle.sqlite_value.specs.declared.value.Value.{Value}
-use Rattle.sqlite_value.specs.declared.value.Value.TheVariants.{Int, Text}
-use Rattle.sqlite_value.specs.Order.{Row}
-use Rattle.sqlite.specs.Values.{or_null}
+use Rattle.bsp_store_base.specs.Sqlite.{Int, Row, Text, Value, or_null}
 use Rattle.bsp_rows.specs.Decimal.{fixed_digits}
 use Rattle.bsp_rows.specs.Days.{day_number}
-use Rattle.bsp_rows.specs.CivilDay.{CivilDay}
-use Rattle.bsp_rows.specs.Period.{Period}
-use Rattle.bsp_rows.specs.Rate.{Rate}
-use Rattle.bsp_rows.specs.CommissionTax.{CommissionTax}
-use Rattle.bsp_rows.specs.Terms.{Terms}
+use Rattle.bsp_store_base.specs.Entries.{AirlineEntry, CivilDay, CommissionTax, Item, ItemKey, ItemTax, MemoFields, MemoKey, Period, RangeKey, Rate, ReportedDocument, Tally, TallyKey, Terms, TicketKey}
 use Rattle.bsp_rows.specs.Amounts.{Amounts}
 use Rattle.bsp_rows.specs.RetRecordsTexts.{code_text as transaction_code_text}
 use Rattle.bsp_rows.specs.Writing.{tax_text}
 use Rattle.bsp_rows.specs.GroupValues.{related_of}
-use Rattle.bsp_rows.specs.Item.{Item}
-use Rattle.bsp_rows.specs.ReportedDocument.{ReportedDocument}
-use Rattle.bsp_rows.specs.MemoFields.{MemoFields}
 use Rattle.bsp_rows.specs.Texts.{kind_text, state_text}
-use Rattle.bsp_rows.specs.Tally.{Tally}
-use Rattle.bsp_rows.specs.declared.keys.RangeKey.{RangeKey}
-use Rattle.bsp_rows.specs.declared.keys.ItemKey.{ItemKey}
-use Rattle.bsp_rows.specs.declared.keys.MemoKey.{MemoKey}
-use Rattle.bsp_rows.specs.declared.keys.TallyKey.{TallyKey}
-use Rattle.bsp_store_base.specs.declared.airlines.AirlineEntry.{AirlineEntry}
-use Rattle.bsp_store_base.specs.declared.taxes.ItemTax.{ItemTax}
-use Rattle.bsp_store_base.specs.declared.tickets.TicketKey.{TicketKey}
 use Rattle.bsp_store_base.specs.Taxes.{tax_with}
 
 -- ---- values

@@ -2,18 +2,9 @@
 use Rattle.std.specs.Prelude.{ℕ, List, [], ◌∷◌, map, length, Option, Some, refl}
 use Rattle.std.specs.FinMap.{FinMap, entries}
 use Rattle.std.specs.Ordering.{nat_cmp}
-use Rattle.bsp_rows.specs.Period.{Period}
-use Rattle.bsp_rows.specs.Rate.{Rate}
-use Rattle.bsp_rows.specs.CommissionTax.{CommissionTax}
-use Rattle.bsp_rows.specs.Terms.{Terms}
-use Rattle.bsp_rows.specs.Item.{Item}
-use Rattle.bsp_rows.specs.ReportedDocument.{ReportedDocument}
-use Rattle.bsp_rows.specs.MemoFields.{MemoFields}
-use Rattle.bsp_rows.specs.Tally.{Tally}
-use Rattle.bsp_rows.specs.Rows.{Rows, item_cmp, memo_cmp, range_cmp}
+use Rattle.bsp_store_base.specs.Entries.{AirlineEntry, CommissionTax, Item, MemoFields, Period, Rate, ReportedDocument, Rows, Tally, Terms}
+use Rattle.bsp_rows.specs.Rows.{item_cmp, memo_cmp, range_cmp}
 use Rattle.bsp_rows.specs.Tallies.{tally_cmp}
-use Rattle.bsp_store_base.specs.declared.airlines.AirlineEntry.{AirlineEntry}
-use Rattle.bsp_store_base.specs.declared.tickets.TicketKey.{TicketKey}
 use Rattle.bsp_store_base.specs.Airlines.{airline_entries}
 use Rattle.bsp_store_base.specs.Seconds.{seconds_of, ticket_cmp}
 use Rattle.bsp_store_base.specs.Columns.{Meta, airline_row, agent_row, commission_tax_row, item_row, item_tax_row, memo_row, meta_rows, period_row, placed, rate_row, second_row, stock_row, tally_row, tally_tax_row, terms_rows}

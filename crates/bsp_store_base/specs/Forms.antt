@@ -6,22 +6,9 @@ use Rattle.bsp_rows.specs.CivilDay.{is_day}
 use Rattle.bsp_rows.specs.Codes.{check_digit_of}
 use Rattle.bsp_rows.specs.Tokens.{is_token}
 use Rattle.bsp_rows.specs.Letters.{currency_reading}
-use Rattle.bsp_rows.specs.Period.{Period}
-use Rattle.bsp_rows.specs.Rate.{Rate}
-use Rattle.bsp_rows.specs.CommissionTax.{CommissionTax}
-use Rattle.bsp_rows.specs.Terms.{Terms}
+use Rattle.bsp_store_base.specs.Entries.{AirlineEntry, CommissionTax, Item, ItemKey, ItemTax, MemoFields, MemoKey, Period, RangeKey, Rate, ReportedDocument, TallyKey, Terms, TicketKey}
 use Rattle.bsp_rows.specs.Stored.{IsStored, IsStoredAmount, IsStoredDocument}
-use Rattle.bsp_rows.specs.Item.{Item}
-use Rattle.bsp_rows.specs.ReportedDocument.{ReportedDocument}
-use Rattle.bsp_rows.specs.MemoFields.{MemoFields}
 use Rattle.bsp_rows.specs.Reasons.{is_reason}
-use Rattle.bsp_rows.specs.declared.keys.RangeKey.{RangeKey}
-use Rattle.bsp_rows.specs.declared.keys.ItemKey.{ItemKey}
-use Rattle.bsp_rows.specs.declared.keys.MemoKey.{MemoKey}
-use Rattle.bsp_rows.specs.declared.keys.TallyKey.{TallyKey}
-use Rattle.bsp_store_base.specs.declared.airlines.AirlineEntry.{AirlineEntry}
-use Rattle.bsp_store_base.specs.declared.taxes.ItemTax.{ItemTax}
-use Rattle.bsp_store_base.specs.declared.tickets.TicketKey.{TicketKey}
 use Rattle.bsp_store_base.specs.Airlines.{HasStoredPlace}
 use Rattle.bsp_store_base.specs.Columns.{Meta}
 use Rattle.bsp_store_base.specs.Content.{Content}

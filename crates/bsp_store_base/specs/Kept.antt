@@ -1,14 +1,7 @@
 -- What the tables of a book keep of its content.
 use Rattle.std.specs.Prelude.{◌≡◌, ℕ, ◌==◌, true, false, not, List, map, IsPermutation, IsTrue, MatchBool, ◌⊎◌}
 use Rattle.std.specs.List.{AllByRecursion, list_all, range_with_len}
-use Rattle.sqlite_value.specs.Order.{Row, column}
-use Rattle.sqlite_trees.specs.Tree.{Trees, IsTable, rowid}
-use Rattle.sqlite_trees.specs.View.{is_int}
-use Rattle.sqlite_trees.specs.declared.store.Store.{Ghosts}
-use Rattle.sqlite_schema.specs.declared.schema.Schema.{Schema}
-use Rattle.sqlite.specs.Effect.{Database, IsDatabase}
-use Rattle.sqlite.specs.State.{HasCleanDisk}
-use Rattle.sqlite.specs.Held.{Held, state}
+use Rattle.bsp_store_base.specs.Sqlite.{Database, Ghosts, HasCleanDisk, Held, IsDatabase, IsTable, Row, Schema, Trees, column, is_int, rowid, state}
 
 -- the columns of a row beside its rowid, where one that it lacks is NULL
 abbrev pub columns_of : ℕ → Row → Row

@@ -1,3 +1,5 @@
+pub mod Entries
+pub mod Sqlite
 pub mod Kept
 pub mod Simple
 pub mod Synced

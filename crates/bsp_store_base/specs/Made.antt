@@ -1,9 +1,7 @@
 -- What is in a store whose tables were made.
 use Rattle.std.specs.Prelude.{◌≡◌, []}
 use Rattle.std.specs.List.{AllByRecursion}
-use Rattle.sqlite_schema.specs.declared.schema.Table.{Table}
-use Rattle.sqlite_schema.specs.declared.schema.Schema.{Schema}
-use Rattle.sqlite.specs.Effect.{Database}
+use Rattle.bsp_store_base.specs.Sqlite.{Database, Schema, Table}
 
 -- a database that has the tables, indexes and views of a schema, and no row in a table
 pub record HasNoRows (of : Schema) (db : Database) : Type 0 where

@@ -1,41 +1,15 @@
 -- A table whose rows are the entries of a map of the content, found by its first columns: what DELETE, INSERT and UPDATE by a
 -- key are there, and SELECT for all rows.
-use Rattle.std.specs.Prelude.{◌≡◌, ℕ, ◌+◌, ◌-◌, ◌/◌, List, [], ◌∷◌, ◌++◌, map, length, Bool, true, false, is_some, Option, Some, None, Result, Ok, Err, slice_get, IsPermutation}
+use Rattle.std.specs.Prelude.{◌≡◌, ℕ, ◌+◌, ◌-◌, ◌/◌, List, [], ◌∷◌, ◌++◌, map, length, Bool, true, false, is_some, Option, Some, None, Result, slice_get, IsPermutation}
 use Rattle.std.specs.declared.cmp.Ordering.{Ordering}
 use Rattle.std.specs.List.{list_all, range_with_len}
 use Rattle.std.specs.Ordering.{eq_by_cmp}
 use Rattle.std.specs.Cmp.{IsTotalOrder}
 use Rattle.std.specs.FinMap.{FinMap, IsAntisymmetric, entries, get, insert, remove}
-use Rattle.sqlite_value.specs.declared.keys.Collation.TheVariants.{Binary}
-use Rattle.sqlite_value.specs.declared.keys.Key.{Key}
-use Rattle.sqlite_value.specs.Keys.{ascending}
-use Rattle.sqlite_value.specs.declared.value.Value.{Value}
-use Rattle.sqlite_value.specs.declared.value.Value.TheVariants.{Null}
-use Rattle.sqlite_value.specs.Order.{Row}
-use Rattle.sqlite_trees.specs.Tree.{Trees, rowid}
-use Rattle.sqlite_trees.specs.declared.store.Store.{Ghosts}
-use Rattle.sqlite_sql.specs.Term.{Term, lit, col, op2, eval_all, holds}
-use Rattle.sqlite_sql.specs.declared.ops.BinaryOp.TheVariants.{Compare}
-use Rattle.sqlite_sql.specs.declared.ops.CompareOp.TheVariants.{Eq}
-use Rattle.sqlite_sql.specs.Program.{overlay}
-use Rattle.sqlite_resolve.specs.declared.compiled.Compiled.{Compiled}
-use Rattle.sqlite_resolve.specs.declared.error.CompileError.{CompileError}
-use Rattle.sqlite_schema.specs.declared.command.Command.{Command}
-use Rattle.sqlite_schema.specs.declared.command.Command.TheVariants.{Delete, Insert, Select, Update}
-use Rattle.sqlite_schema.specs.declared.command.Source.TheVariants.{Values}
-use Rattle.sqlite_schema.specs.declared.schema.Column.{Column}
-use Rattle.sqlite_schema.specs.declared.schema.Table.{Table}
-use Rattle.sqlite_rules.specs.Cast.{cast_all}
-use Rattle.sqlite.specs.Effect.{value_rows}
-use Rattle.sqlite.specs.Given.{IsPlain}
-use Rattle.sqlite.specs.Held.{Held, state}
-use Rattle.sqlite.specs.Listing.{understood}
-use Rattle.sqlite.specs.Rows.{stamped}
-use Rattle.sqlite.specs.State.{CommitsBy, Executes, HasCleanDisk, Survives}
-use Rattle.sqlite.specs.declared.error.Error.{Error}
+use Rattle.bsp_store_base.specs.Sqlite.{Binary, Column, Command, CommitsBy, Compare, Delete, Eq, Error, Executes, Ghosts, HasCleanDisk, Held, Insert, IsPlain, Key, Null, Row, Select, Survives, Table, Term, Trees, Update, Value, Values, ascending, cast_all, col, eval_all, holds, lit, op2, overlay, rowid, stamped, state, understood, value_rows}
 use Rattle.bsp_store_base.specs.declared.keyed_table.Statements.{Statements}
 use Rattle.bsp_store_base.specs.Schema.{our_schema}
-use Rattle.bsp_store_base.specs.Shows.{ShowsTable}
+use Rattle.bsp_store_base.specs.Shows.{IsCommand, ShowsTable}
 use Rattle.bsp_store_base.specs.Simple.{simple}
 use Rattle.bsp_store_base.specs.Kept.{HasRowsNow, KeepsRows, KeepsTable, Part, columns_of}
 use Rattle.bsp_store_base.specs.Content.{Content, form, width_of}
@@ -88,10 +62,6 @@ pub record IsMapTable {K V : Type 0} {R : K → K → Ordering} (t : MapTable K 
   pub made : (k : K) (old new : V) (id : Value) → eval_all (key_project t.keys (width_of t.table.tree)) (t.row_of (k, new) ∷ (id ∷ t.row_of (k, old)) ∷ []) ≡ id ∷ id ∷ t.row_of (k, new)
 
 -- a text means this command, and asks for no rows
-abbrev pub IsCommand : Result Compiled CompileError → Command → Type 0
-IsCommand (Ok c) command = c.command ≡ command
-IsCommand (Err e) command = ⊥
-
 abbrev pub IsText : List ℕ → Command → Type 0
 IsText text command = IsCommand (understood our_schema text) command × IsPlain (understood our_schema text)
 

@@ -1,8 +1,7 @@
 -- The order of the rows of the tables.
 use Rattle.std.specs.Prelude.{ℕ, List, map, IsTrue}
 use Rattle.std.specs.List.{AllByRecursion}
-use Rattle.sqlite_trees.specs.Tree.{Trees, IsTable, rowid}
-use Rattle.sqlite_trees.specs.View.{is_int}
+use Rattle.bsp_store_base.specs.Sqlite.{IsTable, Trees, is_int, rowid}
 use Rattle.bsp_store_base.specs.Schema.{our_tables}
 
 -- the trees of the fourteen tables

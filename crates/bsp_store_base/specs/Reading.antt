@@ -1,9 +1,9 @@
 -- What a column of a row reads as, whatever another program wrote there.
 use Rattle.std.specs.Prelude.{◌≡◌, ◌≢◌, ℕ, ℤ, pos, nat_lt, Bool, true, false, IsTrue, if◌then◌else◌, List, Option, Some, None, MatchOption, option_map, option_and_then}
 use Rattle.std.specs.Result.{result_ok}
-use Rattle.sqlite_value.specs.declared.value.Value.{Value}
-use Rattle.sqlite_value.specs.declared.value.Value.TheVariants.{Null, Int, Text}
-use Rattle.bsp_rows.specs.CivilDay.{CivilDay, is_day}
+use Rattle.bsp_store_base.specs.Sqlite.{Int, Null, Text, Value}
+use Rattle.bsp_store_base.specs.Entries.{CivilDay}
+use Rattle.bsp_rows.specs.CivilDay.{is_day}
 use Rattle.bsp_rows.specs.Codes.{agent_reading, code_reading}
 use Rattle.bsp_rows.specs.Days.{day_number}
 use Rattle.bsp_rows.specs.Tokens.{token_reading}

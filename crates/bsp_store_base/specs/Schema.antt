@@ -1,17 +1,11 @@
 -- The tables of the book's store.
-use Rattle.std.specs.Prelude.{◌≡◌, ◌⊎◌, ℕ, ◌==◌, Bool, true, false, if◌then◌else◌, List, [], ◌∷◌, length, None, codes}
-use Rattle.sqlite_value.specs.declared.keys.Collation.TheVariants.{Binary}
-use Rattle.sqlite_value.specs.declared.keys.Order.{Order}
-use Rattle.sqlite_value.specs.declared.value.Value.TheVariants.{Null}
-use Rattle.sqlite_value.specs.Keys.{plain}
-use Rattle.sqlite_schema.specs.declared.schema.Table.{Table}
-use Rattle.sqlite_schema.specs.declared.schema.Column.{Column}
-use Rattle.sqlite_schema.specs.declared.schema.Index.{Index}
+use Rattle.std.specs.Prelude.{◌≡◌, ◌⊎◌, ℕ, ◌+◌, ◌==◌, Bool, true, false, if◌then◌else◌, List, [], ◌∷◌, ◌++◌, length, map, None, codes}
+use Rattle.std.specs.Borrow.{Bor}
+use Rattle.bsp_store_base.specs.Sqlite.{Binary, Column, Index, Integer, Null, Schema, Table, plain}
 use Rattle.sqlite_schema.specs.declared.schema.Action.TheVariants.{NoAction}
 use Rattle.sqlite_schema.specs.declared.schema.Reference.{Reference}
-use Rattle.sqlite_schema.specs.declared.schema.Schema.{Schema}
 use Rattle.sqlite_schema.specs.declared.schema.Kind.{Kind}
-use Rattle.sqlite_schema.specs.declared.schema.Kind.TheVariants.{Integer, Text}
+use Rattle.sqlite_schema.specs.declared.schema.Kind.TheVariants.{Text}
 
 -- a column of a STRICT table, which is NOT NULL or may be NULL
 abbrev pub strict_column : List ℕ → Kind → Bool → Column
@@ -37,16 +31,16 @@ refers place parent = record {
   is_deferred = false;
 }
 
--- a STRICT table with these foreign keys, and these keys that have indexes, with no CHECK and no INTEGER PRIMARY KEY
-abbrev pub keyed : List ℕ → ℕ → List Column → List Reference → List ℕ → List (List ℕ) → List Order → Table
-keyed name tree columns references primary uniques orders = record {
+-- a STRICT table with these foreign keys and the PRIMARY KEY over these places, with no CHECK and no INTEGER PRIMARY KEY
+abbrev pub strict : List ℕ → ℕ → List Column → List Reference → List ℕ → Table
+strict name tree columns references key = record {
   name = name;
   tree = tree;
   columns = columns;
   key = None;
-  primary = primary;
-  uniques = uniques;
-  orders = orders;
+  primary = key;
+  uniques = key ∷ [];
+  orders = plain ∷ [];
   checks = [];
   references = references;
   computed = [];
@@ -54,11 +48,11 @@ keyed name tree columns references primary uniques orders = record {
   is_counted = false;
 }
 
--- a STRICT table with the PRIMARY KEY over these places
-abbrev pub strict : List ℕ → ℕ → List Column → List Reference → List ℕ → Table
-strict name tree columns references key = keyed name tree columns references key (key ∷ []) (plain ∷ [])
+-- the table of a form of the sources
+abbrev pub of_form : Bor (List ℕ) × ℕ × Bor (List (Bor (List ℕ) × Kind × Bool)) × Bor (List (ℕ × Bor (List ℕ))) × Bor (List ℕ) → Table
+of_form f = strict f.0.now f.1 (map (λ c. strict_column c.0.now c.1 c.2) f.2.now) (map (λ r. refers r.0 r.1.now) f.3.now) f.4.now
 
--- the automatic index for the PRIMARY KEY of a table, whose tree is the one after the table's
+-- an index that keeps keys apart
 abbrev pub key_index : List ℕ → ℕ → ℕ → List ℕ → Index
 key_index name tree table key = record { name = name; tree = tree; table = table; columns = key; order = plain; is_unique = true }
 
@@ -104,21 +98,13 @@ period_columns =
 abbrev pub period_table : Table
 period_table = strict (codes "period") 8 period_columns [] (1 ∷ [])
 
--- the columns of an agent
-abbrev pub agent_columns : List Column
-agent_columns = must (codes "code") Text ∷ must (codes "token") Text ∷ []
-
 -- the registered agents with their tokens
 abbrev pub agent_table : Table
-agent_table = strict (codes "agent") 10 agent_columns [] (1 ∷ [])
-
--- the columns of a range of stock
-abbrev pub stock_columns : List Column
-stock_columns = must (codes "agent") Text ∷ must (codes "lo") Text ∷ must (codes "hi") Text ∷ []
+agent_table = strict (codes "agent") 10 (must (codes "code") Text ∷ must (codes "token") Text ∷ []) [] (1 ∷ [])
 
 -- the ranges of numbers that agents hold
 abbrev pub stock_table : Table
-stock_table = strict (codes "stock") 12 stock_columns (refers 1 (codes "agent") ∷ []) (1 ∷ 2 ∷ [])
+stock_table = strict (codes "stock") 12 (must (codes "agent") Text ∷ must (codes "lo") Text ∷ must (codes "hi") Text ∷ []) (refers 1 (codes "agent") ∷ []) (1 ∷ 2 ∷ [])
 
 -- the columns of an item
 abbrev pub item_columns : List Column
@@ -190,25 +176,11 @@ second_related_columns =
 abbrev pub second_related_table : Table
 second_related_table = strict (codes "second_related") 26 second_related_columns [] (1 ∷ 2 ∷ [])
 
--- the tables of taxes and of second related documents
-abbrev pub tax_tables : List Table
-tax_tables = commission_tax_table ∷ item_tax_table ∷ tally_tax_table ∷ second_related_table ∷ []
-
--- those from the items on
-abbrev pub record_tables : List Table
-record_tables = item_table ∷ memo_table ∷ tally_table ∷ tax_tables
-
--- those from the agents on
-abbrev pub holder_tables : List Table
-holder_tables = agent_table ∷ stock_table ∷ record_tables
-
--- those from the airlines on
-abbrev pub calendar_tables : List Table
-calendar_tables = airline_table ∷ rate_table ∷ period_table ∷ holder_tables
-
 -- the tables in the order of their trees
 abbrev pub our_tables : List Table
-our_tables = meta_table ∷ terms_table ∷ calendar_tables
+our_tables =
+    meta_table ∷ terms_table ∷ airline_table ∷ rate_table ∷ period_table ∷ agent_table ∷ stock_table ∷ item_table ∷ memo_table ∷ tally_table
+    ∷ commission_tax_table ∷ item_tax_table ∷ tally_tax_table ∷ second_related_table ∷ []
 
 -- how many columns the table of a tree has, and 0 where it is the tree of none of these tables
 abbrev pub columns_at : List Table → ℕ → ℕ
@@ -219,36 +191,18 @@ columns_at (t ∷ ts) tree = if t.tree == tree then length t.columns else column
 abbrev pub width_of : ℕ → ℕ
 width_of tree = columns_at our_tables tree
 
--- one of the plan's tables, commission taxes apart
-abbrev pub IsOfPlan : Table → Type 0
-IsOfPlan t = (t ≡ meta_table) ⊎ ((t ≡ terms_table) ⊎ ((t ≡ airline_table) ⊎ ((t ≡ rate_table) ⊎ (t ≡ period_table))))
+-- the table is one of these
+abbrev pub IsOneOf : List Table → Table → Type 0
+IsOneOf [] table = ⊥
+IsOneOf (t ∷ ts) table = (table ≡ t) ⊎ IsOneOf ts table
 
--- one of callers, items, memos and tallies
-abbrev pub IsOfCallers : Table → Type 0
-IsOfCallers t = (t ≡ agent_table) ⊎ ((t ≡ stock_table) ⊎ ((t ≡ item_table) ⊎ ((t ≡ memo_table) ⊎ (t ≡ tally_table))))
-
--- one of taxes and second related documents
-abbrev pub IsOfTaxes : Table → Type 0
-IsOfTaxes t = (t ≡ commission_tax_table) ⊎ ((t ≡ item_tax_table) ⊎ ((t ≡ tally_tax_table) ⊎ (t ≡ second_related_table)))
+-- the automatic index for the PRIMARY KEY of a table, whose tree is the one after the table's
+abbrev pub index_of : Table → Index
+index_of t = key_index (codes "sqlite_autoindex_" ++ t.name ++ codes "_1") (t.tree + 1) t.tree t.primary
 
 -- the index of each key
 abbrev pub our_indexes : List Index
-our_indexes =
-    key_index (codes "sqlite_autoindex_meta_1") 1 0 (1 ∷ [])
-    ∷ key_index (codes "sqlite_autoindex_terms_1") 3 2 (1 ∷ [])
-    ∷ key_index (codes "sqlite_autoindex_airline_1") 5 4 (1 ∷ [])
-    ∷ key_index (codes "sqlite_autoindex_rate_1") 7 6 (1 ∷ 2 ∷ [])
-    ∷ key_index (codes "sqlite_autoindex_period_1") 9 8 (1 ∷ [])
-    ∷ key_index (codes "sqlite_autoindex_agent_1") 11 10 (1 ∷ [])
-    ∷ key_index (codes "sqlite_autoindex_stock_1") 13 12 (1 ∷ 2 ∷ [])
-    ∷ key_index (codes "sqlite_autoindex_item_1") 15 14 (1 ∷ 2 ∷ 3 ∷ [])
-    ∷ key_index (codes "sqlite_autoindex_memo_1") 17 16 (1 ∷ 2 ∷ [])
-    ∷ key_index (codes "sqlite_autoindex_tally_1") 19 18 (1 ∷ 2 ∷ 3 ∷ [])
-    ∷ key_index (codes "sqlite_autoindex_commission_tax_1") 21 20 (1 ∷ [])
-    ∷ key_index (codes "sqlite_autoindex_item_tax_1") 23 22 (1 ∷ 2 ∷ 3 ∷ [])
-    ∷ key_index (codes "sqlite_autoindex_tally_tax_1") 25 24 (1 ∷ 2 ∷ 3 ∷ [])
-    ∷ key_index (codes "sqlite_autoindex_second_related_1") 27 26 (1 ∷ 2 ∷ [])
-    ∷ []
+our_indexes = map index_of our_tables
 
 -- a schema with no view
 abbrev pub schema_of : List Table → List Index → Schema

@@ -1,15 +1,12 @@
 -- The second related documents of items, by the keys of their tickets.
-use Rattle.std.specs.Prelude.{Bool, true, false, if◌then◌else◌, List, Option, Some, None, option_and_then, option_map}
+use Rattle.std.specs.Prelude.{Bool, true, false, if◌then◌else◌, Option, Some, None, option_and_then, option_map}
 use Rattle.std.specs.List.{filter_map}
 use Rattle.std.specs.declared.cmp.Ordering.{Ordering}
 use Rattle.std.specs.Ordering.{nat_cmp, on, then_cmp}
 use Rattle.std.specs.FinMap.{FinMap, entries, from_sorted}
 use Rattle.bsp_rows.specs.GroupValues.{second_of}
-use Rattle.bsp_rows.specs.Item.{Item}
-use Rattle.bsp_rows.specs.ReportedDocument.{ReportedDocument}
+use Rattle.bsp_store_base.specs.Entries.{Item, ItemKey, ReportedDocument, TicketKey}
 use Rattle.bsp_rows.specs.Rows.{item_cmp}
-use Rattle.bsp_rows.specs.declared.keys.ItemKey.{ItemKey}
-use Rattle.bsp_store_base.specs.declared.tickets.TicketKey.{TicketKey}
 use Rattle.bsp_store_base.specs.Synced.{with_value}
 
 -- by agent, and then by number

@@ -1,19 +1,7 @@
 -- What a query for a whole table of the book shows.
 use Rattle.std.specs.Prelude.{◌≡◌, ℕ, List, [], false, map, Vec, Result, Ok, Err, IfOk, OnOk, IsPermutation}
 use Rattle.std.specs.Global.{Global}
-use Rattle.sqlite_value.specs.Order.{Row}
-use Rattle.sqlite_trees.specs.Tree.{Trees}
-use Rattle.sqlite_trees.specs.declared.store.Store.{Ghosts}
-use Rattle.sqlite.specs.declared.error.Error.{Error}
-use Rattle.sqlite.specs.Given.{IsPlain}
-use Rattle.sqlite.specs.Held.{Held, state}
-use Rattle.sqlite.specs.Listing.{reads_listing, understood}
-use Rattle.sqlite.specs.State.{HasCleanDisk}
-use Rattle.sqlite_resolve.specs.declared.compiled.Compiled.{Compiled}
-use Rattle.sqlite_resolve.specs.declared.error.CompileError.{CompileError}
-use Rattle.sqlite_schema.specs.declared.command.Command.TheVariants.{Select}
-use Rattle.sqlite_sql.specs.Program.{overlay}
-use Rattle.sqlite_sql.specs.Query.{IsAnswer, Query}
+use Rattle.bsp_store_base.specs.Sqlite.{Command, CompileError, Compiled, Error, Ghosts, HasCleanDisk, Held, IsAnswer, IsPlain, Query, Row, Select, Trees, overlay, reads_listing, state, understood}
 use Rattle.bsp_store_base.specs.Schema.{our_schema}
 use Rattle.bsp_store_base.specs.Content.{Content, form, width_of}
 use Rattle.bsp_store_base.specs.Forms.{IsFormed}
@@ -36,10 +24,14 @@ pub record AreAllOf (part : Part Content) (trees : Trees) (rows : List Row) : Ty
   pub in_any_order : IsPermutation (map (columns_of (width_of part.tree)) (trees part.tree)) rows
   pub in_order : (c : Content) → IsFormed c → KeepsRows form c trees → rows ≡ part.rows c
 
+-- a text means this command, and asks for no rows
+abbrev pub IsCommand : Result Compiled CompileError → Command → Type 0
+IsCommand (Ok c) command = c.command ≡ command
+IsCommand (Err e) command = ⊥
+
 -- a text means this query
 abbrev pub IsQuery : Result Compiled CompileError → Query → List (List ℕ) → Type 0
-IsQuery (Ok c) query names = c.command ≡ Select (record { lets = []; body = query }) names
-IsQuery (Err e) query names = ⊥
+IsQuery r query names = IsCommand r (Select (record { lets = []; body = query }) names)
 
 -- a text for all rows of a table
 pub record ShowsTable (part : Part Content) (text : List ℕ) : Type 0 where

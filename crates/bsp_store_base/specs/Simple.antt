@@ -1,9 +1,6 @@
 -- A query over one table.
 use Rattle.std.specs.Prelude.{ℕ, pos, negsuc, false, List, [], None}
-use Rattle.sqlite_value.specs.declared.value.Value.TheVariants.{Int}
-use Rattle.sqlite_value.specs.declared.keys.Key.{Key}
-use Rattle.sqlite_sql.specs.Term.{Term, lit}
-use Rattle.sqlite_sql.specs.Query.{Query, inner, end}
+use Rattle.bsp_store_base.specs.Sqlite.{Int, Key, Query, Term, end, inner, lit}
 
 -- SELECT project FROM t WHERE filter ORDER BY order
 abbrev pub simple : ℕ → List Term → List Term → List (Term × Key) → Query

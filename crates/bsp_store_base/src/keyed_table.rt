@@ -1,8 +1,8 @@
 //! Tables whose rows are found by keys: a row is written over, added or taken out by one statement.
 
-ghost use Rattle.std.specs.Prelude.{⊤, OnErr, OnOk};
+ghost use Rattle.std.specs.Prelude.{OnErr, OnOk};
 ghost use Rattle.bsp_store_base.specs.Calls.{Changes, GivesUp};
-ghost use Rattle.bsp_store_base.specs.MapTables.{IsMapTable, IsText, after, change, deletion, has, holds_row, insertion, lacks, with_one, without};
+ghost use Rattle.bsp_store_base.specs.MapTables.{after, holds_row};
 
 use sqlite::{Alter, Connection, Error};
 
@@ -62,50 +62,6 @@ pub trait KeyedTable<K: Copy + Drop, V: Copy + Drop> {
         ensures { HasRun S.Store text.now (table.row_of (key.now, value.now)) conn.old conn.new result };
 }
 
-fn delete<K: Copy + Drop, V: Copy + Drop, T: KeyedTable<K, V>, S: Alter>(
-    table: &T,
-    conn: &mut Connection<S>,
-    text: &str,
-    key: &K,
-) -> Result<usize, Error>
-    requires lawful { IsMapTable T.table }
-    requires meant { IsText text.now (deletion T.table) }
-    ensures ok { OnOk result (Changes S.Store conn.old conn.new (λ now. ⊤) (without T.table key.now)) }
-    ensures err { OnErr result (GivesUp S.Store conn.old conn.new) }
-{
-    table.run_on_key(conn, text, key)
-}
-
-fn insert<K: Copy + Drop, V: Copy + Drop, T: KeyedTable<K, V>, S: Alter>(
-    table: &T,
-    conn: &mut Connection<S>,
-    text: &str,
-    key: &K,
-    value: &V,
-) -> Result<usize, Error>
-    requires lawful { IsMapTable T.table }
-    requires meant { IsText text.now (insertion T.table) }
-    ensures ok { OnOk result (Changes S.Store conn.old conn.new (lacks T.table key.now) (with_one T.table key.now value.now)) }
-    ensures err { OnErr result (GivesUp S.Store conn.old conn.new) }
-{
-    table.run_on_row(conn, text, key, value)
-}
-
-fn update<K: Copy + Drop, V: Copy + Drop, T: KeyedTable<K, V>, S: Alter>(
-    table: &T,
-    conn: &mut Connection<S>,
-    text: &str,
-    key: &K,
-    value: &V,
-) -> Result<usize, Error>
-    requires lawful { IsMapTable T.table }
-    requires meant { IsText text.now (change T.table) }
-    ensures ok { OnOk result (Changes S.Store conn.old conn.new (has T.table key.now) (with_one T.table key.now value.now)) }
-    ensures err { OnErr result (GivesUp S.Store conn.old conn.new) }
-{
-    table.run_on_row(conn, text, key, value)
-}
-
 /// Leaves a value at a key, or none. One statement writes it, by whether the table has a row of the key.
 ///
 /// # Errors
@@ -124,12 +80,12 @@ pub fn put<K: Copy + Drop, V: Copy + Drop, T: KeyedTable<K, V>, S: Alter>(
     let statements = table.statements();
     if let Some(value) = value {
         if is_there {
-            update(table, conn, statements.update, &key, &value)?;
+            table.run_on_row(conn, statements.update, &key, &value)?;
         } else {
-            insert(table, conn, statements.insert, &key, &value)?;
+            table.run_on_row(conn, statements.insert, &key, &value)?;
         }
     } else if is_there {
-        delete(table, conn, statements.delete, &key)?;
+        table.run_on_key(conn, statements.delete, &key)?;
     }
     Ok(())
 }

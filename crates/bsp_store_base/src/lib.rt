@@ -8,13 +8,11 @@
 
 mod airlines;
 mod digits;
-mod indexes;
 mod keyed_table;
 mod made;
 mod plain;
 mod reading;
 mod schema;
-mod tables;
 mod taxes;
 mod tickets;
 
@@ -26,7 +24,6 @@ pub use reading::{
     agent_at, airline_at, amount_at, below_at, day_at, int_at, is_null, number_at, period_at,
     token_at,
 };
-pub use schema::is_ours;
-pub use tables::is_our_table;
+pub use schema::{is_our_table, is_ours};
 pub use taxes::ItemTax;
 pub use tickets::{TicketKey, second_related};

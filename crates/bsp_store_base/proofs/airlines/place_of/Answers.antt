@@ -1,5 +1,4 @@
-use Rattle.std.proofs.Common.{◌+◌, cond, sym, ap, ◌∙◌, arith}
-use Rattle.std.specs.Prelude.{Some, take}
+use Rattle.std.proofs.Common.{◌+◌, cond, sym, ap, ◌∙◌, arith, Some, take}
 use Rattle.bsp_rows.proofs.MapLemmas.{same_Some}
 use Rattle.bsp_store_base.specs.Airlines.{place_of}
 use Rattle.bsp_store_base.proofs.AirlineLemmas.{place_taken}

@@ -1,15 +1,24 @@
-use Rattle.std.proofs.Common.{refl}
-use Rattle.bsp_store_base.proofs.MapTables.{leave_none, put_new, put_over, take_out}
+use Rattle.bsp_store_base.proofs.MapTables.{leaves_none, puts_in, puts_over, takes_out}
+use Rattle.bsp_store_base.proofs.Writes.{on_err}
 use Rattle.bsp_store_base.proofs.keyed_table.put.Goals as goal
 
-pub returns-in_ok-update-clause-ok : goal.returns-in_ok-update-clause-ok
-returns-in_ok-update-clause-ok g c = put_over g.T.KeyedTable.table c.statements-statements.ensures.lawful g.S.Store c.args.conn.now c.update.new.conn c.args.key c.in-Some.value c.args.is_there c.args.value c.if-is_there.true c.in-Some.is c.in_ok-update.ensures.ok
+pub returns-in_ok-run_on_row-clause-ok : goal.returns-in_ok-run_on_row-clause-ok
+returns-in_ok-run_on_row-clause-ok g c = (puts_over g.T.KeyedTable.table c.statements-statements.ensures.lawful g.S.Store _ _ c.args.key c.args.is_there c.args.value c.in-Some.is c.if-is_there.true c.statements-statements.ensures.meant.update c.in_ok-run_on_row.ensures).0
 
-pub returns-in_ok-insert-clause-ok : goal.returns-in_ok-insert-clause-ok
-returns-in_ok-insert-clause-ok g c = put_new g.T.KeyedTable.table c.statements-statements.ensures.lawful g.S.Store c.args.conn.now c.insert.new.conn c.args.key c.in-Some.value c.args.is_there c.args.value c.if-is_there.false c.in-Some.is c.in_ok-insert.ensures.ok
+pub returns-in_err-run_on_row-clause-err : goal.returns-in_err-run_on_row-clause-err
+returns-in_err-run_on_row-clause-err g c = on_err _ (puts_over g.T.KeyedTable.table c.statements-statements.ensures.lawful g.S.Store _ _ c.args.key c.args.is_there c.args.value c.in-Some.is c.if-is_there.true c.statements-statements.ensures.meant.update c.in_err-run_on_row.ensures).1
 
-pub returns-in_ok-delete-clause-ok : goal.returns-in_ok-delete-clause-ok
-returns-in_ok-delete-clause-ok g c = take_out g.T.KeyedTable.table c.statements-statements.ensures.lawful g.S.Store c.args.conn.now c.delete.new.conn c.args.key c.args.is_there c.args.value c.in_default.is c.in_ok-delete.ensures.ok
+pub returns-in_ok-run_on_row-2-clause-ok : goal.returns-in_ok-run_on_row-2-clause-ok
+returns-in_ok-run_on_row-2-clause-ok g c = (puts_in g.T.KeyedTable.table c.statements-statements.ensures.lawful g.S.Store _ _ c.args.key c.args.is_there c.args.value c.in-Some.is c.if-is_there.false c.statements-statements.ensures.meant.insert c.in_ok-run_on_row-2.ensures).0
+
+pub returns-in_err-run_on_row-2-clause-err : goal.returns-in_err-run_on_row-2-clause-err
+returns-in_err-run_on_row-2-clause-err g c = on_err _ (puts_in g.T.KeyedTable.table c.statements-statements.ensures.lawful g.S.Store _ _ c.args.key c.args.is_there c.args.value c.in-Some.is c.if-is_there.false c.statements-statements.ensures.meant.insert c.in_err-run_on_row-2.ensures).1
+
+pub returns-in_ok-run_on_key-clause-ok : goal.returns-in_ok-run_on_key-clause-ok
+returns-in_ok-run_on_key-clause-ok g c = (takes_out g.T.KeyedTable.table c.statements-statements.ensures.lawful g.S.Store _ _ c.args.key c.args.is_there c.args.value c.in_default.is c.statements-statements.ensures.meant.delete c.in_ok-run_on_key.ensures).0
+
+pub returns-in_err-run_on_key-clause-err : goal.returns-in_err-run_on_key-clause-err
+returns-in_err-run_on_key-clause-err g c = on_err _ (takes_out g.T.KeyedTable.table c.statements-statements.ensures.lawful g.S.Store _ _ c.args.key c.args.is_there c.args.value c.in_default.is c.statements-statements.ensures.meant.delete c.in_err-run_on_key.ensures).1
 
 pub returns-else-is_there-2-clause-ok : goal.returns-else-is_there-2-clause-ok
-returns-else-is_there-2-clause-ok g c = leave_none g.T.KeyedTable.table c.statements-statements.ensures.lawful g.S.Store c.args.conn.now c.args.conn.now c.args.key c.args.is_there c.args.value c.if-is_there-2.false c.in_default.is refl
+returns-else-is_there-2-clause-ok g c = leaves_none g.T.KeyedTable.table c.statements-statements.ensures.lawful g.S.Store c.args.conn.now c.args.key c.args.is_there c.args.value c.if-is_there-2.false c.in_default.is
