@@ -1,8 +1,6 @@
 pub mod Back
 pub mod Orders
-pub mod Sharing
 pub mod MetaTable
-pub mod TermsTable
 pub mod PlacedTables
 pub mod Tables
 pub mod CallerBack

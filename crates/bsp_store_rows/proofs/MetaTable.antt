@@ -1,13 +1,14 @@
--- The table of the day and of the closed periods.
-use Rattle.std.proofs.Common.{◌≡◌, ℕ, List, [], ◌∷◌, codes, map, Bool, true, false, is_some, Option, Some, None, Ok, refl, sym, ap, ap₂, ◌∙◌, subst, IsPermutation, Equal}
+-- The tables of one row at most: that of the day and of the closed periods, and that of the terms.
+use Rattle.std.proofs.Common.{◌≡◌, ℕ, List, [], ◌∷◌, codes, map, Bool, true, false, is_some, Option, Some, None, Ok, refl, sym, ap, ap₂, subst, IsPermutation, Equal, filter, not}
 use Rattle.std.specs.List.{range_with_len}
 use Rattle.std.proofs.lemmas.List.Sorted.{IsPermutation-refl}
 use Rattle.sqlite_value.specs.declared.value.Value.TheVariants.{Null}
 use Rattle.sqlite_trees.specs.declared.store.Store.{Ghosts}
+use Rattle.sqlite_trees.proofs.ListLemmas.{all_of, filter_none}
 use Rattle.sqlite_sql.specs.Term.{lit, col, eval_all}
 use Rattle.sqlite_trees.specs.Tree.{rowid}
 use Rattle.sqlite_schema.specs.declared.command.Source.TheVariants.{Values}
-use Rattle.sqlite_schema.specs.declared.command.Command.TheVariants.{Insert, Select, Update}
+use Rattle.sqlite_schema.specs.declared.command.Command.TheVariants.{Insert, Select, Update, Delete}
 use Rattle.sqlite_schema.specs.declared.schema.Column.{Column}
 use Rattle.sqlite_tied.specs.Compute.{everything}
 use Rattle.sqlite.specs.Effect.{IsDatabase}
@@ -17,17 +18,20 @@ use Rattle.sqlite.specs.Held.{Held, state}
 use Rattle.sqlite.proofs.Callers.{IsPlain, command_of, runs_as}
 use Rattle.bsp_store_base.specs.Kept.{Keeps, KeepsTable}
 use Rattle.bsp_store_base.specs.Simple.{simple}
-use Rattle.bsp_store_base.proofs.Writing.{inserts, updates}
+use Rattle.bsp_store_base.proofs.Writing.{inserts, updates, deletes}
 use Rattle.bsp_store_base.proofs.Keys.{flag_is, one_column}
 use Rattle.bsp_store_base.proofs.Parts.{wrote}
 use Rattle.bsp_store_base.proofs.Held.{writes}
 use Rattle.bsp_store_base.proofs.Values.{cast_int, cast_null, cast_same}
-use Rattle.bsp_store_base.specs.Schema.{our_schema, meta_table, meta_columns}
-use Rattle.bsp_store_base.specs.Columns.{Meta, meta_row, meta_rows}
-use Rattle.bsp_store_base.specs.Calls.{Changes}
+use Rattle.bsp_store_base.specs.Schema.{our_schema, meta_table, meta_columns, terms_table, terms_columns}
+use Rattle.bsp_store_base.specs.Columns.{Meta, meta_row, meta_rows, terms_row, terms_rows}
 use Rattle.bsp_store_base.specs.Content.{Content, form}
 use Rattle.bsp_store_base.specs.MapTables.{key_project, key_test}
 use Rattle.bsp_store_base.proofs.Writes.{Does, no_work}
+use Rattle.std.specs.Prelude.{⊤}
+use Rattle.std.specs.Option.{option_to_list}
+use Rattle.bsp_rows.specs.Terms.{Terms}
+use Rattle.sqlite_value.specs.Order.{Row}
 
 -- ---- the texts
 
@@ -86,23 +90,80 @@ adds_sound old new entry count ours h = (runs_as add_text (meta_row entry) old n
 
 -- ---- the calls
 
-module _ {S : Type 0} (g : Ghosts S) (old new : Held S) where
-  pub setting : (entry : Meta) → Does g old new set_text (meta_row entry) (λ now. is_some now.meta ≡ true) (with entry)
-  setting entry r kept ran = writes form g old new set_text (meta_row entry) _ set_is.0 set_is.1 (λ is. cc) (λ name is. cc) (λ o n count w. w) r kept ran (λ now. is_some now.meta ≡ true) (with entry)
-      (λ now count may keeps h. replaces_some (state g old) (state g new) entry count now now.meta refl may keeps h)
-
-  pub adding : (entry : Meta) → Does g old new add_text (meta_row entry) (λ now. now.meta ≡ None) (with entry)
-  adding entry r kept ran = writes form g old new add_text (meta_row entry) _ add_is.0 add_is.1 (λ is. cc) (λ name is. cc) (λ o n count w. w) r kept ran (λ now. now.meta ≡ None) (with entry)
-      (λ now count may keeps h. adds (state g old) (state g new) entry count now may keeps h)
-
 none_there : (o : Option Meta) → is_some o ≡ false → o ≡ None
 none_there None is = refl
 none_there (Some m) is = absurd (cc is)
 
--- by whether there is a row
-module _ {S : Type 0} (g : Ghosts S) (old new : Held S) (entry : Meta) (there : Bool) where
-  pub put_over : there ≡ true → Changes g old new (λ now. is_some now.meta ≡ true) (with entry) → Changes g old new (λ now. is_some now.meta ≡ there) (with entry)
-  put_over is made now last a b met = made now last a b (met ∙ is)
+abbrev pub text_for : Bool → List ℕ
+text_for true = set_text
+text_for false = add_text
 
-  pub put_first : there ≡ false → Changes g old new (λ now. now.meta ≡ None) (with entry) → Changes g old new (λ now. is_some now.meta ≡ there) (with entry)
-  put_first is made now last a b met = made now last a b (none_there now.meta (met ∙ is))
+-- the row is written over, or added as the first, by whether one is there
+pub writing : {S : Type 0} (g : Ghosts S) (old new : Held S) (entry : Meta) (there : Bool) → Does g old new (text_for there) (meta_row entry) (λ now. is_some now.meta ≡ there) (with entry)
+writing g old new entry true r kept ran =
+    writes form g old new set_text (meta_row entry) _ set_is.0 set_is.1 (λ is. cc) (λ name is. cc) (λ o n count w. w) r kept ran (λ now. is_some now.meta ≡ true) (with entry)
+    (λ now count may keeps h. replaces_some (state g old) (state g new) entry count now now.meta refl may keeps h)
+writing g old new entry false r kept ran =
+    writes form g old new add_text (meta_row entry) _ add_is.0 add_is.1 (λ is. cc) (λ name is. cc) (λ o n count w. w) r kept ran (λ now. is_some now.meta ≡ false) (with entry)
+    (λ now count may keeps h. adds (state g old) (state g new) entry count now (none_there now.meta may) keeps h)
+
+-- ---- the terms
+
+-- all are taken out
+no_rows : {A : Type 0} (row_of : A → Row) (xs : List A) → IsPermutation [] (map row_of (filter (λ x. not true) xs))
+no_rows row_of xs = subst (λ l. IsPermutation [] (map row_of l)) (sym (filter_none _ xs (all_of _ (λ x. refl) xs))) (IsPermutation-refl [])
+
+abbrev pub clear_text : List ℕ
+clear_text = codes "DELETE FROM terms"
+
+abbrev pub terms_text : List ℕ
+terms_text = codes "INSERT INTO terms (id, currency, review, documents) VALUES (?1, ?2, ?3, ?4)"
+
+abbrev pub all_terms_text : List ℕ
+all_terms_text = codes "SELECT id, currency, review, documents FROM terms"
+
+clear_is : (command_of (understood our_schema clear_text) ≡ Delete 1 (record { lets = []; body = simple terms_table.tree [] (col 1 0 ∷ []) [] })) × IsPlain (understood our_schema clear_text)
+unfolding understood everything
+clear_is = (refl, (refl, refl))
+
+terms_is : (command_of (understood our_schema terms_text) ≡ Insert 1 (Values (lit Null ∷ map (col 0) (range_with_len 0 4)) 5)) × IsPlain (understood our_schema terms_text)
+unfolding understood everything
+terms_is = (refl, (refl, refl))
+
+pub all_terms_is : (command_of (understood our_schema all_terms_text) ≡ Select (record { lets = []; body = simple terms_table.tree [] (map (col 1) (range_with_len 1 4)) [] }) (map (λ (c : Column). c.name) terms_columns)) × IsPlain (understood our_schema all_terms_text) × (reads_listing our_schema all_terms_text ≡ false)
+unfolding understood everything
+all_terms_is = (refl, (refl, refl), refl)
+
+abbrev pub without : Content → Content
+without now = record now { terms = None }
+
+abbrev pub with_terms : Terms → Content → Content
+with_terms entry now = record now { terms = Some entry }
+
+listed : (o : Option Terms) → terms_rows o ≡ map terms_row (option_to_list o)
+listed None = refl
+listed (Some entry) = refl
+
+clears : (old new : State) (count : ℕ) (now : Content) → Keeps form now old.now → Executes clear_text [] old new (Ok count) → Keeps form (without now) new.now
+clears old new count now keeps h =
+    let entries = option_to_list now.terms in
+    let it = deletes our_schema 1 terms_table refl refl (λ db. refl) 4 (no_work terms_table.tree) clear_text clear_is.1 [] [] clear_is.0 terms_row (λ e. true) (λ r. refl) (λ r. refl) (λ e. refl) (λ e. refl)
+    old new keeps.schema count h entries (subst (λ l. KeepsTable 4 l (old.now.trees terms_table.tree)) (listed now.terms) keeps.kept.1.0) in
+    wrote form old.now new.now terms_table.tree now (without now) _ it.same it.kept it.others (refl, (no_rows terms_row entries, (refl, (refl, (refl, (refl, (refl, (refl, (refl, (refl, (refl, (refl, (refl, (refl, tt)))))))))))))) keeps
+
+adds_terms : (old new : State) (entry : Terms) (count : ℕ) (now : Content) → now.terms ≡ None → Keeps form now old.now → Executes terms_text (terms_row entry) old new (Ok count) → Keeps form (with_terms entry now) new.now
+adds_terms old new entry count now none keeps h =
+    let row = terms_row entry in
+    let it = inserts our_schema 1 terms_table refl refl (λ db. refl) 4 (no_work terms_table.tree) terms_text terms_is.1 row _ 5 terms_is.0 (Null ∷ row) row refl
+    (ap₂ ◌∷◌ cast_null (cast_same terms_columns row (cast_int _, (refl, (cast_int _, (cast_int _, tt)))))) (λ id. refl) old new keeps.schema count h _ keeps.kept.1.0 in
+    let alone = subst (λ o. IsPermutation (row ∷ []) (row ∷ terms_rows o)) (sym none) (IsPermutation-refl _) in
+    wrote form old.now new.now terms_table.tree now (with_terms entry now) _ it.same it.kept it.others (refl, (alone, (refl, (refl, (refl, (refl, (refl, (refl, (refl, (refl, (refl, (refl, (refl, (refl, tt)))))))))))))) keeps
+
+module _ {S : Type 0} (g : Ghosts S) (old new : Held S) where
+  pub clearing : Does g old new clear_text [] (λ now. ⊤) without
+  clearing r kept ran = writes form g old new clear_text [] _ clear_is.0 clear_is.1 (λ is. cc) (λ name is. cc) (λ o n count w. w) r kept ran (λ now. ⊤) without
+      (λ now count may keeps h. clears (state g old) (state g new) count now keeps h)
+
+  pub adding : (entry : Terms) → Does g old new terms_text (terms_row entry) (λ now. now.terms ≡ None) (with_terms entry)
+  adding entry r kept ran = writes form g old new terms_text (terms_row entry) _ terms_is.0 terms_is.1 (λ is. cc) (λ name is. cc) (λ o n count w. w) r kept ran (λ now. now.terms ≡ None) (with_terms entry)
+      (λ now count may keeps h. adds_terms (state g old) (state g new) entry count now may keeps h)

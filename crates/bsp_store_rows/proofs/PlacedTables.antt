@@ -1,10 +1,11 @@
 -- What INSERT of the next entry makes of a table whose rows have places, and what the rest of a list makes of the content.
-use Rattle.std.proofs.Common.{◌≡◌, ℕ, ◌+◌, ◌<◌, ◌≤◌, List, [], ◌∷◌, ◌++◌, false, map, length, take, get_or, Ok, Result, OnOk, OnErr, sym, ap, ap₂, ◌∙◌, subst, IsPermutation}
+use Rattle.std.proofs.Common.{◌≡◌, ℕ, ◌+◌, ◌<◌, ◌≤◌, List, [], ◌∷◌, ◌++◌, false, map, length, take, get_or, Ok, Err, Result, OnOk, OnErr, sym, ap, ap₂, ◌∙◌, subst, IsPermutation}
 use Rattle.std.specs.List.{range_with_len}
-use Rattle.std.proofs.lemmas.List.{take_all}
+use Rattle.std.proofs.lemmas.List.{append-nil, map-append, take_all}
+use Rattle.std.proofs.lemmas.List.Sorted.{IsPermutation-middle}
 use Rattle.sqlite_value.specs.declared.value.Value.TheVariants.{Null}
 use Rattle.sqlite_value.specs.Order.{Row}
-use Rattle.sqlite_trees.specs.Tree.{IsAscending, Trees}
+use Rattle.sqlite_trees.specs.Tree.{Trees}
 use Rattle.sqlite_trees.specs.declared.store.Store.{Ghosts}
 use Rattle.sqlite_schema.specs.declared.command.Command.TheVariants.{Select}
 use Rattle.sqlite_schema.specs.declared.schema.Column.{Column}
@@ -18,24 +19,32 @@ use Rattle.sqlite.proofs.Callers.{IsPlain, command_of}
 use Rattle.bsp_store_base.specs.Calls.{Changes, GivesUp, GivesUpIf}
 use Rattle.bsp_store_base.specs.Columns.{placed}
 use Rattle.bsp_store_base.specs.Content.{Content, form}
-use Rattle.bsp_store_base.specs.Forms.{IsFormed}
 use Rattle.bsp_store_base.specs.Kept.{HasContents, IsInside, Keeps, columns_of}
 use Rattle.bsp_store_base.specs.MapTables.{HasRun, IsText}
 use Rattle.bsp_store_base.specs.Schema.{our_schema}
-use Rattle.bsp_store_base.specs.Shows.{ShowsTable}
 use Rattle.bsp_store_base.specs.Simple.{simple}
 use Rattle.bsp_store_base.proofs.Held.{writes}
 use Rattle.bsp_store_base.proofs.MapTables.{command_is}
 use Rattle.bsp_store_base.proofs.Opening.{table_shown}
+use Rattle.bsp_store_base.proofs.Orders.{placed_rise}
 use Rattle.bsp_store_base.proofs.Parts.{wrote}
-use Rattle.bsp_store_base.proofs.Placing.{next_place, one_more}
+use Rattle.bsp_store_base.proofs.Placing.{next_place, one_more, placed_next}
 use Rattle.bsp_store_base.proofs.ReadingLemmas.{out}
 use Rattle.bsp_store_base.proofs.Rising.{IsBefore, keys_of}
 use Rattle.bsp_store_base.proofs.Values.{cast_null}
 use Rattle.bsp_store_base.proofs.Writes.{no_work}
 use Rattle.bsp_store_base.proofs.Writing.{inserts}
-use Rattle.bsp_store_rows.specs.PlacedTables.{IsPlacedList, PlacedList, by_place, has_first, insertion, is_next, part, width, with_more}
-use Rattle.bsp_store_rows.proofs.Sharing.{placed_more}
+use Rattle.bsp_store_rows.specs.declared.placed.PlacedStatements.{PlacedStatements}
+use Rattle.bsp_store_rows.specs.PlacedTables.{ArePlacedStatements, IsPlacedList, PlacedList, by_place, has_first, insertion, is_next, part, width, with_more}
+
+-- one entry more comes at the end
+placed_more : {A : Type 0} (row_of : ℕ × A → Row) (xs : List A) (x : A) → IsPermutation (map row_of (placed 0 (xs ++ x ∷ []))) (row_of (length xs + 1, x) ∷ map row_of (placed 0 xs))
+placed_more row_of xs x =
+    let row = row_of (length xs + 1, x) in
+    let rows = map row_of (placed 0 xs) in
+    let is : map row_of (placed 0 (xs ++ x ∷ [])) ≡ rows ++ row ∷ [] = ap (map row_of) (placed_next xs x) ∙ map-append row_of (placed 0 xs) ((length xs + 1, x) ∷ []) in
+    subst (λ l. IsPermutation l (row ∷ rows)) (sym is)
+    (subst (λ l. IsPermutation (rows ++ row ∷ []) (row ∷ l)) (append-nil rows) (IsPermutation-middle rows row []))
 
 module _ {A : Type 0} (t : PlacedList A) (l : IsPlacedList t) where
   module _ (text : List ℕ) (old new : State) (count : ℕ) (now : Content) (keeps : Keeps form now old.now) where
@@ -52,17 +61,17 @@ module _ {A : Type 0} (t : PlacedList A) (l : IsPlacedList t) where
   abbrev seen : Trees → Row → Output
   seen trees r = out t.table.tree [] (map (col 1) (range_with_len 1 (width t))) (by_place t) trees [] r
 
-  pub all_shown : ((trees : Trees) (r : Row) → (seen trees r).1 ≡ columns_of (width t) r) → ((trees : Trees) (r : Row) → (seen trees r).0 ≡ keys_of (by_place t) (columns_of (width t) r))
-      → ((c : Content) → IsFormed c → IsAscending (IsBefore (by_place t)) ((part t).rows c)) → (text : List ℕ)
-      → (command_of (understood our_schema text) ≡ Select (record { lets = []; body = simple t.table.tree [] (map (col 1) (range_with_len 1 (width t))) (by_place t) }) (map (λ (c : Column). c.name) t.table.columns))
-      × IsPlain (understood our_schema text) → reads_listing our_schema text ≡ false → ShowsTable (part t) text
-  all_shown lists sees rise text is unlisted =
-      table_shown (part t) text (map (λ (c : Column). c.name) t.table.columns) (by_place t) is.0 is.1 unlisted l.plain_tree lists sees rise (λ c trees kept. (l.here c trees kept).rows)
+  pub meant : (s : PlacedStatements) → IsText s.insert.now (insertion t) → IsText s.query.now (Select (record { lets = []; body = simple t.table.tree [] (map (col 1) (range_with_len 1 (width t))) (by_place t) }) (map (λ (c : Column). c.name) t.table.columns)) → reads_listing our_schema s.query.now ≡ false → ((trees : Trees) (r : Row) → (seen trees r).1 ≡ columns_of (width t) r)
+      → ((trees : Trees) (r : Row) → (seen trees r).0 ≡ keys_of (by_place t) (columns_of (width t) r)) → ((a b : ℕ × A) → a.0 < b.0 → IsBefore (by_place t) (t.row_of a) (t.row_of b)) → ArePlacedStatements t s
+  meant s insert query unlisted lists sees rise = record {
+    insert = insert;
+    query = table_shown (part t) s.query.now (map (λ (c : Column). c.name) t.table.columns) (by_place t) (command_is _ _ query.0) query.1 unlisted l.plain_tree lists sees (λ c formed. placed_rise (by_place t) t.row_of rise (t.of c)) (λ c trees kept. (l.here c trees kept).rows);
+  }
 
   -- ---- the calls
 
   module _ {S : Type 0} (g : Ghosts S) where
-    pub adding : (old new : Held S) (text : List ℕ) (r : Result ℕ Error) → IsText text (insertion t) → (place : ℕ) (entry : A) → HasRun g text (t.row_of (place, entry)) old new r
+    adding : (old new : Held S) (text : List ℕ) (r : Result ℕ Error) → IsText text (insertion t) → (place : ℕ) (entry : A) → HasRun g text (t.row_of (place, entry)) old new r
         → OnOk r (Changes g old new (is_next t place) (with_more t entry)) × OnErr r (GivesUp g old new)
     adding old new text r is place entry ran =
         writes form g old new text (t.row_of (place, entry)) (insertion t) (command_is _ _ is.0) is.1 (λ e. cc) (λ name e. cc) (λ o n count w. w) r ran.survives ran.runs (is_next t place) (with_more t entry)
@@ -76,20 +85,21 @@ module _ {A : Type 0} (t : PlacedList A) (l : IsPlacedList t) where
       pub none_added : AreAdded first from
       none_added now last a b met stands inside = (subst (λ c. HasContents form g first c last a b) (sym (l.same now) ∙ ap (λ x. t.with x now) met) stands, inside)
 
-      module _ (h next : Held S) (i : ℕ) (added : AreAdded h i) where
-        pub one_added : (x : A) → i < length all → x ≡ get_or all i x → Changes g h next (is_next t (i + 1)) (with_more t x) → AreAdded next (i + 1)
-        one_added x below is more now last a b met stands inside =
+      module _ (h next : Held S) (i : ℕ) (added : AreAdded h i) (text : List ℕ) (is : IsText text (insertion t)) (x : A) where
+        pub one_added : (count : ℕ) → i < length all → x ≡ get_or all i x → HasRun g text (t.row_of (i + 1, x)) h next (Ok count) → AreAdded next (i + 1)
+        one_added count below same ran now last a b met stands inside =
             let so_far = added now last a b met stands inside in
             let had = l.seen (take i all) now in
+            let more = (adding h next text (Ok count) is (i + 1) x ran).0 in
             let done = more (t.with (take i all) now) last a b (next_place all i below ∙ ap (λ (x : List A). length x + 1) (sym had)) so_far.0 so_far.1 in
-            let same : with_more t x (t.with (take i all) now) ≡ t.with (take (i + 1) all) now =
-            l.twice _ (take i all) now ∙ ap (λ y. t.with (y ++ x ∷ []) now) had ∙ ap (λ y. t.with y now) (one_more all i x below is) in
-            (subst (λ c. HasContents form g next c last a b) same done.0, done.1)
+            let after : with_more t x (t.with (take i all) now) ≡ t.with (take (i + 1) all) now =
+            l.twice _ (take i all) now ∙ ap (λ y. t.with (y ++ x ∷ []) now) had ∙ ap (λ y. t.with y now) (one_more all i x below same) in
+            (subst (λ c. HasContents form g next c last a b) after done.0, done.1)
 
-        pub all_added : length all ≤ i → Changes g first h (has_first t from all) (t.with all)
-        all_added end now last a b met stands inside = subst (λ x. HasContents form g h (t.with x now) last a b × IsInside form g h) (take_all i all end) (added now last a b met stands inside)
-
-        pub not_added : GivesUp g h next → GivesUpIf g first next (has_first t from all)
-        not_added fails now last a b met stands inside =
+        pub not_added : (e : Error) → HasRun g text (t.row_of (i + 1, x)) h next (Err e) → GivesUpIf g first next (has_first t from all)
+        not_added e ran now last a b met stands inside =
             let so_far = added now last a b met stands inside in
-            fails (t.with (take i all) now) last a b so_far.0 so_far.1
+            (adding h next text (Err e) is (i + 1) x ran).1 (t.with (take i all) now) last a b so_far.0 so_far.1
+
+      pub all_added : (h : Held S) (i : ℕ) → AreAdded h i → length all ≤ i → Changes g first h (has_first t from all) (t.with all)
+      all_added h i added end now last a b met stands inside = subst (λ x. HasContents form g h (t.with x now) last a b × IsInside form g h) (take_all i all end) (added now last a b met stands inside)

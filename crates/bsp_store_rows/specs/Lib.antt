@@ -1,8 +1,6 @@
 pub mod Reading
-pub mod Values
+pub mod Cells
 pub mod Tables
 pub mod PlacedTables
-pub mod Callers
 pub mod CallerReading
 pub mod MemoReading
-pub mod MemoWritten

@@ -1,14 +1,14 @@
 //! The table of the airlines: their places in the plan and their tokens.
 
-ghost use Rattle.std.specs.Prelude.{◌≡◌, pos, option_map};
+ghost use Rattle.std.specs.Prelude.{◌≡◌};
 ghost use Rattle.std.specs.Option.{ForSome};
-ghost use Rattle.sqlite_value.specs.Value.{owned};
-ghost use Rattle.sqlite_value.specs.declared.value.Value.TheVariants.{Int, Text};
-ghost use Rattle.sqlite.specs.Values.{bound, bound_value, or_null};
+ghost use Rattle.sqlite_value.specs.declared.value.Value.TheVariants.{Text};
+ghost use Rattle.sqlite.specs.Values.{bound, or_null};
 ghost use Rattle.bsp_store_base.specs.Airlines.{HasStoredPlace};
-ghost use Rattle.bsp_store_base.specs.Columns.{airline_row};
-ghost use Rattle.bsp_store_rows.specs.Values.{airline_values};
+ghost use Rattle.bsp_store_base.specs.Columns.{airline_row, count};
+ghost use Rattle.bsp_store_rows.specs.Cells.{cell, written};
 
+use crate::cells::{Cell, run};
 use bsp_rows::{AirlineCode, Token};
 use bsp_store_base::{AirlineEntry, KeyedTable, Statements, airline_digits};
 use sqlite::{Alter, Connection, Error};
@@ -18,36 +18,25 @@ use std::marker::Model;
 /// The row of an airline that is published, registered, or both.
 #[derive(Clone, Copy)]
 pub struct AirlineRow {
-    code: [u8; 3],
-    place: Option<i64>,
-    token: Option<Token>,
+    cells: [Cell; 3],
 }
 
-fn stored_place(airline: &AirlineEntry) -> Option<i64>
+fn place_cell(airline: &AirlineEntry) -> Cell
     requires { HasStoredPlace airline.now }
-    ensures { result ≡ option_map pos airline.now.place }
+    ensures { cell result ≡ or_null count airline.now.place }
 {
     match airline.place {
-        Some(place) => Some(place as i64),
-        None => None,
+        Some(place) => Cell::Int(place as i64),
+        None => Cell::Null,
     }
 }
 
-fn place_value<'a>(place: Option<i64>) -> ValueRef<'a>
-    ensures { bound_value (owned result) ≡ or_null Int place }
-{
-    match place {
-        Some(place) => ValueRef::Int(place),
-        None => ValueRef::Null,
-    }
-}
-
-fn token_value<'a>(token: &'a Option<Token>) -> ValueRef<'a>
-    ensures { bound_value (owned result) ≡ or_null Text token.now }
+fn token_cell(token: Option<Token>) -> Cell
+    ensures { cell result ≡ or_null Text token }
 {
     match token {
-        Some(token) => ValueRef::Text(token.as_bytes()),
-        None => ValueRef::Null,
+        Some(token) => Cell::Token(token),
+        None => Cell::Null,
     }
 }
 
@@ -55,24 +44,23 @@ impl AirlineRow {
     /// The row of an airline.
     pub fn of(code: AirlineCode, airline: &AirlineEntry) -> AirlineRow
         requires { HasStoredPlace airline.now }
-        ensures { airline_values result ≡ airline_row (code, airline.now) }
+        ensures { written result.cells ≡ airline_row (code, airline.now) }
     {
         AirlineRow {
-            code: airline_digits(code),
-            place: stored_place(airline),
-            token: airline.token,
+            cells: [
+                Cell::Three(airline_digits(code)),
+                place_cell(airline),
+                token_cell(airline.token),
+            ],
         }
     }
 
     /// A value for each column.
     pub fn values(&self) -> [ValueRef<'_>; 3]
-        ensures { bound result ≡ airline_values self.now }
+        ensures { bound result ≡ written self.now.cells }
     {
-        [
-            ValueRef::Text(&self.code),
-            place_value(self.place),
-            token_value(&self.token),
-        ]
+        let [code, place, token] = &self.cells;
+        [code.value(), place.value(), token.value()]
     }
 }
 
@@ -126,6 +114,7 @@ impl KeyedTable<AirlineCode, StoredAirline> for Airlines {
 
     ghost table = { airlines_map };
 
+    #[tactic(auto, using(crate::proofs::Tables::airlines_lawful))]
     fn statements(&self) -> Statements {
         Statements {
             delete: "DELETE FROM airline WHERE code = ?1",
@@ -142,7 +131,7 @@ impl KeyedTable<AirlineCode, StoredAirline> for Airlines {
         code: &AirlineCode,
     ) -> Result<usize, Error> {
         let digits = airline_digits(*code);
-        conn.execute(text, &[ValueRef::Text(&digits)])
+        run(conn, text, &[ValueRef::Text(&digits)])
     }
 
     fn run_on_row<S: Alter>(
@@ -152,6 +141,10 @@ impl KeyedTable<AirlineCode, StoredAirline> for Airlines {
         code: &AirlineCode,
         airline: &StoredAirline,
     ) -> Result<usize, Error> {
-        conn.execute(text, &AirlineRow::of(*code, &airline.entry()).values())
+        run(
+            conn,
+            text,
+            &AirlineRow::of(*code, &airline.entry()).values(),
+        )
     }
 }

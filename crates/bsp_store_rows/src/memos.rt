@@ -1,49 +1,44 @@
-//! The table of the memos.
+//! The table of the memos, and a memo, read out of a row.
 
-ghost use Rattle.std.specs.Prelude.{◌≡◌, option_map};
-ghost use Rattle.sqlite_value.specs.Value.{owned};
-ghost use Rattle.sqlite_value.specs.declared.value.Value.TheVariants.{Text};
-ghost use Rattle.sqlite.specs.Values.{bound, bound_value, or_null};
-ghost use Rattle.bsp_store_base.specs.Columns.{code_digits, memo_row};
-ghost use Rattle.bsp_store_rows.specs.MemoWritten.{memo_written};
+ghost use Rattle.std.specs.Prelude.{◌≡◌};
+ghost use Rattle.sqlite_value.specs.Order.{column};
+ghost use Rattle.sqlite.specs.Values.{bound, or_null};
+ghost use Rattle.bsp_store_base.specs.Columns.{memo_row, period_text};
+ghost use Rattle.bsp_store_base.specs.Reading.{code_in, if_there};
+ghost use Rattle.bsp_store_rows.specs.Cells.{cell, memo_written};
+ghost use Rattle.bsp_store_rows.specs.MemoReading.{IsMemoIn, kind_in, memo_key_in, memo_in, memo_of, reason_in, state_in};
 
-use bsp_rows::{Memo, MemoKey, MemoKind, MemoState, PeriodCode, Reason};
+use crate::cells::{Cell, run};
+use bsp_rows::{Day, Memo, MemoFields, MemoKey, MemoKind, MemoState, PeriodCode, Reason};
 use bsp_store_base::{
-    KeyedTable, Statements, agent_digits, airline_digits, number_digits, period_digits,
+    KeyedTable, Statements, agent_at, agent_digits, airline_at, airline_digits, amount_at, day_at,
+    is_null, number_at, number_digits, period_at, period_digits,
 };
-use sqlite::{Alter, Connection, Error};
+use sqlite::{Alter, Connection, Error, Row};
 use sqlite_value::value::ValueRef;
+use std::str;
 
 /// What is written of a memo: its key and its other codes in digits, and the rest of its fields.
 #[derive(Clone, Copy)]
 pub struct MemoRow {
-    airline: [u8; 3],
-    number: [u8; 10],
-    agent: [u8; 8],
-    kind: MemoKind,
-    amount: i64,
-    first_amount: i64,
-    reason: Reason,
-    issued: i64,
-    state: MemoState,
-    billed: Option<[u8; 5]>,
+    airline: Cell,
+    number: Cell,
+    agent: Cell,
+    kind: Cell,
+    amount: Cell,
+    first_amount: Cell,
+    reason: Cell,
+    issued: Cell,
+    state: Cell,
+    billed: Cell,
 }
 
-fn billed_digits(billed: Option<PeriodCode>) -> Option<[u8; 5]>
-    ensures { result ≡ option_map (code_digits 5) billed }
+fn billed_cell(billed: Option<PeriodCode>) -> Cell
+    ensures { cell result ≡ or_null period_text billed }
 {
     match billed {
-        Some(period) => Some(period_digits(period)),
-        None => None,
-    }
-}
-
-fn billed_value<'a>(billed: &'a Option<[u8; 5]>) -> ValueRef<'a>
-    ensures { bound_value (owned result) ≡ or_null Text billed.now }
-{
-    match billed {
-        Some(period) => ValueRef::Text(period),
-        None => ValueRef::Null,
+        Some(period) => Cell::Five(period_digits(period)),
+        None => Cell::Null,
     }
 }
 
@@ -54,16 +49,16 @@ impl MemoRow {
     {
         let fields = *memo.fields();
         MemoRow {
-            airline: airline_digits(key.airline),
-            number: number_digits(key.document),
-            agent: agent_digits(fields.agent),
-            kind: fields.kind,
-            amount: fields.amount.get(),
-            first_amount: fields.issued_amount.get(),
-            reason: fields.reason,
-            issued: fields.issued.number(),
-            state: fields.state,
-            billed: billed_digits(fields.billed),
+            airline: Cell::Three(airline_digits(key.airline)),
+            number: Cell::Ten(number_digits(key.document)),
+            agent: Cell::Eight(agent_digits(fields.agent)),
+            kind: Cell::Kind(fields.kind),
+            amount: Cell::Int(fields.amount.get()),
+            first_amount: Cell::Int(fields.issued_amount.get()),
+            reason: Cell::Reason(fields.reason),
+            issued: Cell::Int(fields.issued.number()),
+            state: Cell::State(fields.state),
+            billed: billed_cell(fields.billed),
         }
     }
 
@@ -72,16 +67,16 @@ impl MemoRow {
         ensures { bound result ≡ memo_written self.now }
     {
         [
-            ValueRef::Text(&self.airline),
-            ValueRef::Text(&self.number),
-            ValueRef::Text(&self.agent),
-            ValueRef::Text(self.kind.code().as_bytes()),
-            ValueRef::Int(self.amount),
-            ValueRef::Int(self.first_amount),
-            ValueRef::Text(self.reason.as_str().as_bytes()),
-            ValueRef::Int(self.issued),
-            ValueRef::Text(self.state.word().as_bytes()),
-            billed_value(&self.billed),
+            self.airline.value(),
+            self.number.value(),
+            self.agent.value(),
+            self.kind.value(),
+            self.amount.value(),
+            self.first_amount.value(),
+            self.reason.value(),
+            self.issued.value(),
+            self.state.value(),
+            self.billed.value(),
         ]
     }
 }
@@ -97,6 +92,7 @@ impl KeyedTable<MemoKey, Memo> for Memos {
 
     ghost table = { memos_map };
 
+    #[tactic(auto, using(crate::proofs::Tables::memos_lawful))]
     fn statements(&self) -> Statements {
         Statements {
             delete: "DELETE FROM memo WHERE airline = ?1 AND number = ?2",
@@ -117,7 +113,11 @@ impl KeyedTable<MemoKey, Memo> for Memos {
     ) -> Result<usize, Error> {
         let airline = airline_digits(key.airline);
         let number = number_digits(key.document);
-        conn.execute(text, &[ValueRef::Text(&airline), ValueRef::Text(&number)])
+        run(
+            conn,
+            text,
+            &[ValueRef::Text(&airline), ValueRef::Text(&number)],
+        )
     }
 
     fn run_on_row<S: Alter>(
@@ -127,6 +127,98 @@ impl KeyedTable<MemoKey, Memo> for Memos {
         key: &MemoKey,
         memo: &Memo,
     ) -> Result<usize, Error> {
-        conn.execute(text, &MemoRow::of(key, memo).values())
+        run(conn, text, &MemoRow::of(key, memo).values())
     }
+}
+
+#[tactic(auto, using(crate::proofs::OtherTexts::no_kind))]
+fn kind_at(row: &Row, at: usize) -> Option<MemoKind>
+    ensures { result ≡ kind_in (column row.now at) }
+{
+    match row.get_ref(at) {
+        Ok(ValueRef::Text(text)) => match str::from_utf8(text) {
+            Ok(text) => MemoKind::read(text),
+            Err(_) => None,
+        },
+        _ => None,
+    }
+}
+
+#[tactic(auto, using(crate::proofs::OtherTexts::no_state))]
+fn state_at(row: &Row, at: usize) -> Option<MemoState>
+    ensures { result ≡ state_in (column row.now at) }
+{
+    match row.get_ref(at) {
+        Ok(ValueRef::Text(text)) => match str::from_utf8(text) {
+            Ok(text) => MemoState::read(text),
+            Err(_) => None,
+        },
+        _ => None,
+    }
+}
+
+fn reason_at(row: &Row, at: usize) -> Option<Reason>
+    ensures { result ≡ reason_in (column row.now at) }
+{
+    match row.get_ref(at) {
+        Ok(ValueRef::Text(text)) => Reason::read(text),
+        _ => None,
+    }
+}
+
+fn key_of(row: &Row) -> Option<MemoKey>
+    ensures { result ≡ memo_key_in row.now }
+{
+    let airline = airline_at(row, 0)?;
+    let document = number_at(row, 1)?;
+    Some(MemoKey { airline, document })
+}
+
+fn billed_of(row: &Row) -> Option<Option<PeriodCode>>
+    ensures { result ≡ if_there (column row.now 9) (code_in 5 (column row.now 9)) }
+{
+    if is_null(row, 9) {
+        return Some(None);
+    }
+    Some(Some(period_at(row, 9)?))
+}
+
+fn memo_of(key: MemoKey, issued: Day, row: &Row) -> Option<Memo>
+    ensures { result ≡ memo_of key issued row.now }
+{
+    let agent = agent_at(row, 2)?;
+    let kind = kind_at(row, 3)?;
+    let amount = amount_at(row, 4)?;
+    let issued_amount = amount_at(row, 5)?;
+    let reason = reason_at(row, 6)?;
+    let state = state_at(row, 8)?;
+    let billed = billed_of(row)?;
+    Memo::restore(MemoFields {
+        airline: key.airline,
+        document: key.document,
+        agent,
+        kind,
+        amount,
+        issued_amount,
+        reason,
+        issued,
+        state,
+        billed,
+    })
+}
+
+fn memo_in(issued: Option<Day>, row: &Row) -> Option<(MemoKey, Memo)>
+    ensures { result ≡ memo_in issued row.now }
+{
+    let issued = issued?;
+    let key = key_of(row)?;
+    Some((key, memo_of(key, issued, row)?))
+}
+
+/// The key and the memo that a row of the table reads as, and none of a row that is no memo's.
+pub fn read_memo(row: &Row) -> Option<(MemoKey, Memo)>
+    ensures { IsMemoIn row.now result }
+{
+    let issued = day_at(row, 7);
+    memo_in(issued, row)
 }

@@ -1,11 +1,18 @@
-//! Tables whose rows are the entries of a list, each with its place: what is new in the list is added.
+//! Tables whose rows are the entries of a list, each with its place: what is new in the list is added. They are those of the
+//! plan: rates of commission, periods and taxes on commission.
 
-ghost use Rattle.std.specs.Prelude.{◌<◌, ◌^◌, length, OnErr, OnOk};
-ghost use Rattle.bsp_store_base.specs.Calls.{Changes, GivesUp, GivesUpIf};
-ghost use Rattle.bsp_store_base.specs.MapTables.{IsText};
-ghost use Rattle.bsp_store_rows.specs.PlacedTables.{IsPlacedList, has_first, insertion, is_next, with_all, with_more};
+ghost use Rattle.std.specs.Prelude.{◌≡◌, ◌<◌, ◌^◌, length, OnErr, OnOk};
+ghost use Rattle.sqlite.specs.Values.{bound};
+ghost use Rattle.bsp_store_base.specs.Calls.{Changes, GivesUpIf};
+ghost use Rattle.bsp_store_base.specs.Columns.{commission_tax_row, period_row, rate_row};
+ghost use Rattle.bsp_store_rows.specs.Cells.{written};
+ghost use Rattle.bsp_store_rows.specs.PlacedTables.{has_first, with_all};
 
+use crate::cells::{Cell, run};
+use bsp_rows::{CommissionTax, Period, Rate};
+use bsp_store_base::{airline_digits, period_digits};
 use sqlite::{Alter, Connection, Error};
+use sqlite_value::value::ValueRef;
 
 /// The statements that write and read the rows of a table.
 #[derive(Clone, Copy)]
@@ -46,22 +53,6 @@ pub trait PlacedTable<A: Copy> {
         ensures { HasRun S.Store text.now (list.row_of (place, entry.now)) conn.old conn.new result };
 }
 
-fn add<A: Copy, T: PlacedTable<A>, S: Alter>(
-    table: &T,
-    conn: &mut Connection<S>,
-    text: &str,
-    place: usize,
-    entry: &A,
-) -> Result<usize, Error>
-    requires lawful { IsPlacedList T.list }
-    requires meant { IsText text.now (insertion T.list) }
-    requires fits { place < 2 ^ 63 }
-    ensures ok { OnOk result (Changes S.Store conn.old conn.new (is_next T.list place) (with_more T.list entry.now)) }
-    ensures err { OnErr result (GivesUp S.Store conn.old conn.new) }
-{
-    table.run_on_row(conn, text, place, entry)
-}
-
 /// Writes the entries of a list from a place on, counted from 0. The table has those before it.
 ///
 /// # Errors
@@ -79,7 +70,192 @@ pub fn add_all<A: Copy, T: PlacedTable<A>, S: Alter>(
 {
     let statements = table.statements();
     for at in from..entries.len() {
-        add(table, conn, statements.insert, at + 1, &entries[at])?;
+        table.run_on_row(conn, statements.insert, at + 1, &entries[at])?;
     }
     Ok(())
+}
+
+/// The row of a rate of commission at its place.
+#[derive(Clone, Copy)]
+pub struct RateRow {
+    cells: [Cell; 4],
+}
+
+impl RateRow {
+    /// The row of a rate at a place, counted from 1.
+    pub fn of(place: usize, rate: &Rate) -> RateRow
+        requires { place < 2 ^ 63 }
+        ensures { written result.cells ≡ rate_row (place, rate.now) }
+    {
+        RateRow {
+            cells: [
+                Cell::Three(airline_digits(rate.airline)),
+                Cell::Int(rate.from.number()),
+                Cell::Int(place as i64),
+                Cell::Int(rate.hundredths as i64),
+            ],
+        }
+    }
+
+    /// A value for each column.
+    pub fn values(&self) -> [ValueRef<'_>; 4]
+        ensures { bound result ≡ written self.now.cells }
+    {
+        let [airline, begins, place, hundredths] = &self.cells;
+        [
+            airline.value(),
+            begins.value(),
+            place.value(),
+            hundredths.value(),
+        ]
+    }
+}
+
+/// The table of the commission rates.
+pub struct Rates;
+
+impl PlacedTable<Rate> for Rates {
+    ghost use Rattle.bsp_store_rows.specs.Tables.{rates_list};
+
+    ghost list = { rates_list };
+
+    #[tactic(auto, using(crate::proofs::Tables::rates_lawful))]
+    fn statements(&self) -> PlacedStatements {
+        PlacedStatements {
+            insert: "INSERT INTO rate (airline, begins, place, hundredths) VALUES (?1, ?2, ?3, ?4)",
+            query: "SELECT airline, begins, place, hundredths FROM rate ORDER BY place",
+        }
+    }
+
+    fn run_on_row<S: Alter>(
+        &self,
+        conn: &mut Connection<S>,
+        text: &str,
+        place: usize,
+        rate: &Rate,
+    ) -> Result<usize, Error> {
+        run(conn, text, &RateRow::of(place, rate).values())
+    }
+}
+
+/// The row of a billing period at its place.
+#[derive(Clone, Copy)]
+pub struct PeriodRow {
+    cells: [Cell; 5],
+}
+
+impl PeriodRow {
+    /// The row of a period at a place, counted from 1.
+    pub fn of(place: usize, period: &Period) -> PeriodRow
+        requires { place < 2 ^ 63 }
+        ensures { written result.cells ≡ period_row (place, period.now) }
+    {
+        PeriodRow {
+            cells: [
+                Cell::Five(period_digits(period.code)),
+                Cell::Int(place as i64),
+                Cell::Int(period.first.number()),
+                Cell::Int(period.last.number()),
+                Cell::Int(period.remittance.number()),
+            ],
+        }
+    }
+
+    /// A value for each column.
+    pub fn values(&self) -> [ValueRef<'_>; 5]
+        ensures { bound result ≡ written self.now.cells }
+    {
+        let [code, place, begins, ends, remit] = &self.cells;
+        [
+            code.value(),
+            place.value(),
+            begins.value(),
+            ends.value(),
+            remit.value(),
+        ]
+    }
+}
+
+/// The table of the periods.
+pub struct Periods;
+
+impl PlacedTable<Period> for Periods {
+    ghost use Rattle.bsp_store_rows.specs.Tables.{periods_list};
+
+    ghost list = { periods_list };
+
+    #[tactic(auto, using(crate::proofs::Tables::periods_lawful))]
+    fn statements(&self) -> PlacedStatements {
+        PlacedStatements {
+            insert: "INSERT INTO period (code, place, begins, ends, remit) VALUES (?1, ?2, ?3, ?4, ?5)",
+            query: "SELECT code, place, begins, ends, remit FROM period ORDER BY place",
+        }
+    }
+
+    fn run_on_row<S: Alter>(
+        &self,
+        conn: &mut Connection<S>,
+        text: &str,
+        place: usize,
+        period: &Period,
+    ) -> Result<usize, Error> {
+        run(conn, text, &PeriodRow::of(place, period).values())
+    }
+}
+
+/// The row of a tax on commission at its place.
+#[derive(Clone, Copy)]
+pub struct CommissionTaxRow {
+    cells: [Cell; 3],
+}
+
+impl CommissionTaxRow {
+    /// The row of a tax at a place, counted from 1.
+    pub fn of(place: usize, tax: &CommissionTax) -> CommissionTaxRow
+        requires { place < 2 ^ 63 }
+        ensures { written result.cells ≡ commission_tax_row (place, tax.now) }
+    {
+        CommissionTaxRow {
+            cells: [
+                Cell::Int(tax.from.number()),
+                Cell::Int(place as i64),
+                Cell::Int(tax.hundredths as i64),
+            ],
+        }
+    }
+
+    /// A value for each column.
+    pub fn values(&self) -> [ValueRef<'_>; 3]
+        ensures { bound result ≡ written self.now.cells }
+    {
+        let [begins, place, hundredths] = &self.cells;
+        [begins.value(), place.value(), hundredths.value()]
+    }
+}
+
+/// The table of the taxes on commission.
+pub struct CommissionTaxes;
+
+impl PlacedTable<CommissionTax> for CommissionTaxes {
+    ghost use Rattle.bsp_store_rows.specs.Tables.{commission_taxes_list};
+
+    ghost list = { commission_taxes_list };
+
+    #[tactic(auto, using(crate::proofs::Tables::commission_taxes_lawful))]
+    fn statements(&self) -> PlacedStatements {
+        PlacedStatements {
+            insert: "INSERT INTO commission_tax (begins, place, hundredths) VALUES (?1, ?2, ?3)",
+            query: "SELECT begins, place, hundredths FROM commission_tax ORDER BY place",
+        }
+    }
+
+    fn run_on_row<S: Alter>(
+        &self,
+        conn: &mut Connection<S>,
+        text: &str,
+        place: usize,
+        tax: &CommissionTax,
+    ) -> Result<usize, Error> {
+        run(conn, text, &CommissionTaxRow::of(place, tax).values())
+    }
 }

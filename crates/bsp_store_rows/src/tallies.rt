@@ -1,13 +1,18 @@
-//! The table of the tallies.
+//! The table of the tallies, and the key of a tally, read out of a row.
 
 ghost use Rattle.std.specs.Prelude.{◌≡◌};
 ghost use Rattle.sqlite.specs.Values.{bound};
 ghost use Rattle.bsp_store_base.specs.Columns.{tally_row};
-ghost use Rattle.bsp_store_rows.specs.MemoWritten.{tally_written};
+ghost use Rattle.bsp_store_rows.specs.MemoReading.{tally_key_in};
+ghost use Rattle.bsp_store_rows.specs.Cells.{tally_written};
 
+use crate::cells::run;
 use bsp_rows::{Tally, TallyKey};
-use bsp_store_base::{KeyedTable, Statements, agent_digits, airline_digits, period_digits};
-use sqlite::{Alter, Connection, Error};
+use bsp_store_base::{
+    KeyedTable, Statements, agent_at, agent_digits, airline_at, airline_digits, period_at,
+    period_digits,
+};
+use sqlite::{Alter, Connection, Error, Row};
 use sqlite_value::value::ValueRef;
 
 /// What is written of a tally: its key in digits, its counts and its sums, the tax apart.
@@ -77,6 +82,7 @@ impl KeyedTable<TallyKey, Tally> for Tallies {
 
     ghost table = { tallies_map };
 
+    #[tactic(auto, using(crate::proofs::Tables::tallies_lawful))]
     fn statements(&self) -> Statements {
         Statements {
             delete: "DELETE FROM tally WHERE agent = ?1 AND airline = ?2 AND period = ?3",
@@ -98,7 +104,8 @@ impl KeyedTable<TallyKey, Tally> for Tallies {
         let agent = agent_digits(key.agent);
         let airline = airline_digits(key.airline);
         let period = period_digits(key.period);
-        conn.execute(
+        run(
+            conn,
             text,
             &[
                 ValueRef::Text(&agent),
@@ -115,6 +122,20 @@ impl KeyedTable<TallyKey, Tally> for Tallies {
         key: &TallyKey,
         tally: &Tally,
     ) -> Result<usize, Error> {
-        conn.execute(text, &TallyRow::of(key, tally).values())
+        run(conn, text, &TallyRow::of(key, tally).values())
     }
+}
+
+/// The key that the first three columns of a row read as, and none of a row that is no tally's.
+pub fn read_tally_key(row: &Row) -> Option<TallyKey>
+    ensures { result ≡ tally_key_in row.now }
+{
+    let agent = agent_at(row, 0)?;
+    let airline = airline_at(row, 1)?;
+    let period = period_at(row, 2)?;
+    Some(TallyKey {
+        agent,
+        airline,
+        period,
+    })
 }

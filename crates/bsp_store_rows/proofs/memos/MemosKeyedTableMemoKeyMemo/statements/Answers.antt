@@ -1,20 +1,11 @@
 use Rattle.std.proofs.Common.{refl}
 use Rattle.sqlite_tied.specs.Compute.{everything}
 use Rattle.sqlite.specs.Listing.{understood}
-use Rattle.bsp_store_base.proofs.MapTables.{shows_all}
 use Rattle.bsp_store_rows.specs.Tables.{memos_map}
 use Rattle.bsp_store_rows.proofs.Tables.{memos_lawful}
-use Rattle.bsp_store_rows.proofs.Orders.{memos_rise}
+use Rattle.bsp_store_rows.proofs.Orders.{memos_rise, meant}
 use Rattle.bsp_store_rows.proofs.memos.MemosKeyedTableMemoKeyMemo.statements.Goals as goal
 
 pub returns-clause-meant : goal.returns-clause-meant
 unfolding understood everything
-returns-clause-meant c = record {
-  delete = (refl, (refl, refl));
-  insert = (refl, (refl, refl));
-  update = (refl, (refl, refl));
-  query = shows_all memos_map memos_lawful (λ trees r. refl) (λ trees r. refl) memos_rise _ (refl, (refl, refl)) refl;
-}
-
-pub returns-clause-lawful : goal.returns-clause-lawful
-returns-clause-lawful c = memos_lawful
+returns-clause-meant c = meant memos_map memos_lawful memos_rise _ (refl, (refl, refl)) (refl, (refl, refl)) (refl, (refl, refl)) (refl, (refl, refl)) refl (λ trees r. refl) (λ trees r. refl)

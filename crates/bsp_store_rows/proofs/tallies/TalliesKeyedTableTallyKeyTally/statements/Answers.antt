@@ -1,20 +1,11 @@
 use Rattle.std.proofs.Common.{refl}
 use Rattle.sqlite_tied.specs.Compute.{everything}
 use Rattle.sqlite.specs.Listing.{understood}
-use Rattle.bsp_store_base.proofs.MapTables.{shows_all}
 use Rattle.bsp_store_rows.specs.Tables.{tallies_map}
 use Rattle.bsp_store_rows.proofs.Tables.{tallies_lawful}
-use Rattle.bsp_store_rows.proofs.Orders.{tallies_rise}
+use Rattle.bsp_store_rows.proofs.Orders.{tallies_rise, meant}
 use Rattle.bsp_store_rows.proofs.tallies.TalliesKeyedTableTallyKeyTally.statements.Goals as goal
 
 pub returns-clause-meant : goal.returns-clause-meant
 unfolding understood everything
-returns-clause-meant c = record {
-  delete = (refl, (refl, refl));
-  insert = (refl, (refl, refl));
-  update = (refl, (refl, refl));
-  query = shows_all tallies_map tallies_lawful (λ trees r. refl) (λ trees r. refl) tallies_rise _ (refl, (refl, refl)) refl;
-}
-
-pub returns-clause-lawful : goal.returns-clause-lawful
-returns-clause-lawful c = tallies_lawful
+returns-clause-meant c = meant tallies_map tallies_lawful tallies_rise _ (refl, (refl, refl)) (refl, (refl, refl)) (refl, (refl, refl)) (refl, (refl, refl)) refl (λ trees r. refl) (λ trees r. refl)

@@ -1,0 +1,12 @@
+use Rattle.std.proofs.Common.{refl}
+use Rattle.sqlite_tied.specs.Compute.{everything}
+use Rattle.sqlite.specs.Listing.{understood}
+use Rattle.bsp_store_base.proofs.Orders.{place_order}
+use Rattle.bsp_store_rows.specs.Tables.{commission_taxes_list}
+use Rattle.bsp_store_rows.proofs.PlacedTables.{meant}
+use Rattle.bsp_store_rows.proofs.Tables.{commission_taxes_lawful}
+use Rattle.bsp_store_rows.proofs.placed.CommissionTaxesPlacedTableCommissionTax.statements.Goals as goal
+
+pub returns-clause-meant : goal.returns-clause-meant
+unfolding understood everything
+returns-clause-meant c = meant commission_taxes_list commission_taxes_lawful _ (refl, (refl, refl)) (refl, (refl, refl)) refl (λ trees r. refl) (λ trees r. refl) (λ a b less. place_order a.0 b.0 less)

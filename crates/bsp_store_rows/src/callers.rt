@@ -1,0 +1,178 @@
+//! The tables of agents and of ranges of stock, and their rows read back. A row that another program made may have any
+//! values.
+
+ghost use Rattle.std.specs.Prelude.{◌≡◌};
+ghost use Rattle.sqlite.specs.Values.{bound};
+ghost use Rattle.bsp_store_base.specs.Columns.{agent_row, stock_row};
+ghost use Rattle.bsp_store_rows.specs.CallerReading.{agent_in, range_in};
+ghost use Rattle.bsp_store_rows.specs.Cells.{written};
+
+use crate::cells::{Cell, run};
+use bsp_rows::{AgentCode, DocNumber, RangeKey, Token};
+use bsp_store_base::{
+    KeyedTable, Statements, agent_at, agent_digits, number_at, number_digits, token_at,
+};
+use sqlite::{Alter, Connection, Error, Row};
+use sqlite_value::value::ValueRef;
+
+/// The texts of an agent's row.
+#[derive(Clone, Copy)]
+pub struct AgentRow {
+    cells: [Cell; 2],
+}
+
+impl AgentRow {
+    /// The row of an agent and its token.
+    pub fn of(code: AgentCode, token: &Token) -> AgentRow
+        ensures { written result.cells ≡ agent_row (code, token.now) }
+    {
+        AgentRow {
+            cells: [Cell::Eight(agent_digits(code)), Cell::Token(*token)],
+        }
+    }
+
+    /// The values of its columns.
+    pub fn values(&self) -> [ValueRef<'_>; 2]
+        ensures { bound result ≡ written self.now.cells }
+    {
+        let [code, token] = &self.cells;
+        [code.value(), token.value()]
+    }
+}
+
+/// The table of agents: their tokens.
+pub struct Agents;
+
+impl KeyedTable<AgentCode, Token> for Agents {
+    ghost use Rattle.std.specs.Ordering.{nat_cmp};
+    ghost use Rattle.bsp_store_rows.specs.Tables.{agents_map};
+
+    ghost order = { nat_cmp };
+
+    ghost table = { agents_map };
+
+    #[tactic(auto, using(crate::proofs::Tables::agents_lawful))]
+    fn statements(&self) -> Statements {
+        Statements {
+            delete: "DELETE FROM agent WHERE code = ?1",
+            insert: "INSERT INTO agent (code, token) VALUES (?1, ?2)",
+            update: "UPDATE agent SET token = ?2 WHERE code = ?1",
+            query: "SELECT code, token FROM agent ORDER BY code",
+        }
+    }
+
+    fn run_on_key<S: Alter>(
+        &self,
+        conn: &mut Connection<S>,
+        text: &str,
+        code: &AgentCode,
+    ) -> Result<usize, Error> {
+        let digits = agent_digits(*code);
+        run(conn, text, &[ValueRef::Text(&digits)])
+    }
+
+    fn run_on_row<S: Alter>(
+        &self,
+        conn: &mut Connection<S>,
+        text: &str,
+        code: &AgentCode,
+        token: &Token,
+    ) -> Result<usize, Error> {
+        run(conn, text, &AgentRow::of(*code, token).values())
+    }
+}
+
+/// The texts of the row of a range.
+#[derive(Clone, Copy)]
+pub struct RangeRow {
+    cells: [Cell; 3],
+}
+
+impl RangeRow {
+    /// The row of an agent's range, up to its last number.
+    pub fn of(key: &RangeKey, up_to: DocNumber) -> RangeRow
+        ensures { written result.cells ≡ stock_row (key.now, up_to) }
+    {
+        RangeRow {
+            cells: [
+                Cell::Eight(agent_digits(key.agent)),
+                Cell::Ten(number_digits(key.first)),
+                Cell::Ten(number_digits(up_to)),
+            ],
+        }
+    }
+
+    /// The values of its columns.
+    pub fn values(&self) -> [ValueRef<'_>; 3]
+        ensures { bound result ≡ written self.now.cells }
+    {
+        let [agent, first, last] = &self.cells;
+        [agent.value(), first.value(), last.value()]
+    }
+}
+
+/// The table of ranges of stock: the last number of each, under its first.
+pub struct Ranges;
+
+impl KeyedTable<RangeKey, DocNumber> for Ranges {
+    ghost use Rattle.bsp_rows.specs.Rows.{range_cmp};
+    ghost use Rattle.bsp_store_rows.specs.Tables.{ranges_map};
+
+    ghost order = { range_cmp };
+
+    ghost table = { ranges_map };
+
+    #[tactic(auto, using(crate::proofs::Tables::ranges_lawful))]
+    fn statements(&self) -> Statements {
+        Statements {
+            delete: "DELETE FROM stock WHERE agent = ?1 AND lo = ?2",
+            insert: "INSERT INTO stock (agent, lo, hi) VALUES (?1, ?2, ?3)",
+            update: "UPDATE stock SET hi = ?3 WHERE agent = ?1 AND lo = ?2",
+            query: "SELECT agent, lo, hi FROM stock ORDER BY agent, lo",
+        }
+    }
+
+    fn run_on_key<S: Alter>(
+        &self,
+        conn: &mut Connection<S>,
+        text: &str,
+        key: &RangeKey,
+    ) -> Result<usize, Error> {
+        let agent = agent_digits(key.agent);
+        let first = number_digits(key.first);
+        run(
+            conn,
+            text,
+            &[ValueRef::Text(&agent), ValueRef::Text(&first)],
+        )
+    }
+
+    fn run_on_row<S: Alter>(
+        &self,
+        conn: &mut Connection<S>,
+        text: &str,
+        key: &RangeKey,
+        up_to: &DocNumber,
+    ) -> Result<usize, Error> {
+        run(conn, text, &RangeRow::of(key, *up_to).values())
+    }
+}
+
+/// The agent and the token of a row; none where its values are of another form.
+pub fn read_agent(row: &Row) -> Option<(AgentCode, Token)>
+    ensures { result ≡ agent_in row.now }
+{
+    let code = agent_at(row, 0)?;
+    let token = token_at(row, 1)?;
+    Some((code, token))
+}
+
+/// The key and the last number of a row; none where its values are of another form.
+pub fn read_range(row: &Row) -> Option<(RangeKey, DocNumber)>
+    ensures { result ≡ range_in row.now }
+{
+    let agent = agent_at(row, 0)?;
+    let first = number_at(row, 1)?;
+    let last = number_at(row, 2)?;
+    Some((RangeKey { agent, first }, last))
+}

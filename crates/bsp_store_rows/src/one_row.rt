@@ -1,0 +1,164 @@
+//! The tables of one row: `meta`, of the version of the tables and the business day, and that of the terms.
+
+ghost use Rattle.std.specs.Prelude.{◌≡◌, is_some, ◌<◌, ◌^◌, None, Some, OnOk, OnErr, ⊤};
+ghost use Rattle.sqlite.specs.Held.{state};
+ghost use Rattle.sqlite.specs.State.{HasCleanDisk, Survives};
+ghost use Rattle.sqlite.specs.Values.{bound};
+ghost use Rattle.bsp_store_base.specs.Calls.{Changes, GivesUp};
+ghost use Rattle.bsp_store_base.specs.Columns.{meta_row, terms_row};
+ghost use Rattle.bsp_store_base.specs.Content.{Content, form, meta_part, terms_part};
+ghost use Rattle.bsp_store_base.specs.Kept.{Keeps, KeepsSound};
+ghost use Rattle.bsp_store_base.specs.Shows.{ShowsTable};
+ghost use Rattle.bsp_store_rows.specs.Cells.{written};
+
+use crate::cells::Cell;
+use bsp_rows::{Day, Terms};
+use sqlite::{Alter, Connection, Error, ErrorCode, Transaction};
+use sqlite_value::value::ValueRef;
+
+/// The version of the tables.
+pub const VERSION: i64 = 3;
+
+const ADD: &str = "INSERT INTO meta (id, version, day, closed) VALUES (?1, ?2, ?3, ?4)";
+
+const SET: &str = "UPDATE meta SET version = ?2, day = ?3, closed = ?4 WHERE id = ?1";
+
+/// The row of the business day and of how many periods are closed.
+#[derive(Clone, Copy)]
+pub struct MetaRow {
+    cells: [Cell; 4],
+}
+
+impl MetaRow {
+    /// The row of a day and a number of closed periods.
+    pub fn of(day: Day, closed: usize) -> MetaRow
+        requires { closed < 2 ^ 63 }
+        ensures { written result.cells ≡ meta_row (record { day = day; closed = closed }) }
+    {
+        MetaRow {
+            cells: [
+                Cell::Int(1),
+                Cell::Int(VERSION),
+                Cell::Int(day.number()),
+                Cell::Int(closed as i64),
+            ],
+        }
+    }
+
+    /// A value for each column.
+    pub fn values(&self) -> [ValueRef<'_>; 4]
+        ensures { bound result ≡ written self.now.cells }
+    {
+        let [id, version, day, closed] = &self.cells;
+        [id.value(), version.value(), day.value(), closed.value()]
+    }
+}
+
+/// Adds the row of a book without closed periods, where the table has none. The transaction stays open, and nothing is
+/// committed.
+///
+/// # Errors
+///
+/// That of the statement which failed.
+pub fn add_first_meta<S: Alter>(tx: &mut Transaction<'_, S>, day: Day) -> Result<(), Error>
+    ensures same_reference { tx.new.conn.ghost_name ≡ tx.old.conn.ghost_name }
+    ensures added { OnOk result (HasCleanDisk (state S.Store tx.new.conn.now) → (now : Content) → now.meta ≡ None → Keeps form now (state S.Store tx.old.conn.now).now → KeepsSound form (record now { meta = Some (record { day = day; closed = 0 }) }) (state S.Store tx.new.conn.now).now) }
+    ensures survives { Survives (state S.Store tx.old.conn.now) (state S.Store tx.new.conn.now) (λ _. ⊥) }
+{
+    let row = MetaRow::of(day, 0);
+    tx.execute(ADD, &row.values())?;
+    Ok(())
+}
+
+/// Writes the business day and how many periods are closed: into the row of the table, or as its first row.
+///
+/// # Errors
+///
+/// `ErrorCode::TooBig` for a number of periods that no integer of a column has, and else that of the statement which
+/// failed.
+pub fn put_meta<S: Alter>(
+    conn: &mut Connection<S>,
+    is_there: bool,
+    day: Day,
+    closed: usize,
+) -> Result<(), Error>
+    ensures ok { OnOk result (Changes S.Store conn.old conn.new (λ now. is_some now.meta ≡ is_there) (λ now. record now { meta = Some (record { day = day; closed = closed }) })) }
+    ensures err { OnErr result (GivesUp S.Store conn.old conn.new) }
+{
+    if closed > i64::MAX as usize {
+        return Err(Error::SqliteFailure(ErrorCode::TooBig));
+    }
+    let row = MetaRow::of(day, closed);
+    let text = if is_there { SET } else { ADD };
+    conn.execute(text, &row.values())?;
+    Ok(())
+}
+
+/// The query for the rows of the table, of which it has one at most unless another program wrote it.
+pub fn meta_query() -> &'static str
+    ensures { ShowsTable meta_part result.now }
+{
+    "SELECT id, version, day, closed FROM meta"
+}
+
+/// The row of the terms of the market.
+#[derive(Clone, Copy)]
+pub struct TermsRow {
+    cells: [Cell; 4],
+}
+
+impl TermsRow {
+    /// The row of these terms.
+    pub fn of(terms: &Terms) -> TermsRow
+        ensures { written result.cells ≡ terms_row terms.now }
+    {
+        TermsRow {
+            cells: [
+                Cell::Int(1),
+                Cell::Three(terms.currency.letters()),
+                Cell::Int(terms.review_days as i64),
+                Cell::Int(terms.documents_limit as i64),
+            ],
+        }
+    }
+
+    /// A value for each column.
+    pub fn values(&self) -> [ValueRef<'_>; 4]
+        ensures { bound result ≡ written self.now.cells }
+    {
+        let [id, currency, review, documents] = &self.cells;
+        [
+            id.value(),
+            currency.value(),
+            review.value(),
+            documents.value(),
+        ]
+    }
+}
+
+/// Writes the terms of the market, or that there are none.
+///
+/// # Errors
+///
+/// That of the statement which failed.
+pub fn put_terms<S: Alter>(conn: &mut Connection<S>, terms: Option<Terms>) -> Result<(), Error>
+    ensures ok { OnOk result (Changes S.Store conn.old conn.new (λ now. ⊤) (λ now. record now { terms = terms })) }
+    ensures err { OnErr result (GivesUp S.Store conn.old conn.new) }
+{
+    conn.execute("DELETE FROM terms", &[])?;
+    let Some(terms) = terms else {
+        return Ok(());
+    };
+    conn.execute(
+        "INSERT INTO terms (id, currency, review, documents) VALUES (?1, ?2, ?3, ?4)",
+        &TermsRow::of(&terms).values(),
+    )?;
+    Ok(())
+}
+
+/// The query for the rows of the table, of which it has one at most unless another program wrote it.
+pub fn terms_query() -> &'static str
+    ensures { ShowsTable terms_part result.now }
+{
+    "SELECT id, currency, review, documents FROM terms"
+}
