@@ -1,7 +1,6 @@
 -- What is read of the rows of airlines: the published ones in the order of their places, and the tokens.
-use Rattle.std.proofs.Common.{◌≡◌, ℕ, suc, ◌+◌, ◌<◌, ◌==◌, Bool, true, false, cond, List, [], ◌∷◌, map, length, get_or, Option, Some, None, inl, inr, refl, sym, ap, ap₂, subst, ◌∙◌, arith, eq-eqb}
-use Rattle.std.specs.Prelude.{IsSomeAnd, Vec, option_map}
-use Rattle.std.specs.Global.{Global}
+use Rattle.std.proofs.Common.{◌≡◌, ℕ, suc, ◌+◌, ◌<◌, ◌==◌, Bool, true, false, cond, List, [], ◌∷◌, map, length, get_or, Option, Some, None, inl, inr, refl, sym, ap, ap₂, subst, ◌∙◌, arith, eq-eqb, Less, nat_cmp}
+use Rattle.std.specs.Prelude.{option_map}
 use Rattle.std.specs.BTreeMap.{BTreeMap}
 use Rattle.std.specs.Cmp.{nat_cmp_total}
 use Rattle.std.specs.FinMap.{FinMap, empty, entries, from_entries, get, nat_cmp-IsAntisymmetric}
@@ -10,7 +9,7 @@ use Rattle.std.specs.List.Sorted.{IsStrictlySortedBy}
 use Rattle.std.specs.Map.{keys_of}
 use Rattle.std.specs.Option.{option_or}
 use Rattle.std.specs.Ordering.{nat_cmp}
-use Rattle.std.proofs.lemmas.Bool.{eqb-true}
+use Rattle.std.proofs.lemmas.Bool.{eqb-true, lt-ltb}
 use Rattle.bsp_maps.proofs.OrderLemmas.{in_order}
 use Rattle.sqlite_value.specs.Order.{Row}
 use Rattle.bsp_rows.specs.Published.{Published}
@@ -22,13 +21,31 @@ use Rattle.bsp_store_base.specs.Airlines.{airline_entries, entry_of, place_among
 use Rattle.bsp_store_base.specs.Columns.{airline_row, placed}
 use Rattle.bsp_store_base.specs.Forms.{IsAirlineEntry}
 use Rattle.bsp_store_base.proofs.AirlineLemmas.{get-airline_entries}
-use Rattle.bsp_store_load.specs.Gathered.{code_token, gathered, placed_code}
-use Rattle.bsp_store_load.specs.Stored.{AreRowsOfPlan, IsFormedPlan, IsListedAirline}
-use Rattle.bsp_store_load.specs.declared.plan_rows.PlanRows.{PlanRows}
+use Rattle.bsp_store_load.specs.Stored.{AreReadAs, IsFormedPlan, IsListedAirline, code_token, gathered, placed_code}
 use Rattle.bsp_store_load.proofs.CloseLemmas.{of_entries}
 use Rattle.bsp_store_load.proofs.Gathering.{Gives, gathered_is}
-use Rattle.bsp_store_load.proofs.PlacedOrder.{placed_rises, second_of_placed}
-use Rattle.bsp_store_load.proofs.TableLemmas.{both_all}
+use Rattle.bsp_store_load.proofs.PlanReads.{are_read}
+
+-- ---- values with their places
+
+less_is : (a b : ℕ) → a < b → nat_cmp a b ≡ Less
+less_is a b less = rw (lt-ltb a b less) refl
+
+later : {A : Type 0} (at before : ℕ) (xs : List A) → at < before + 1 → AllByRecursion (λ y. nat_cmp at y ≡ Less) (keys_of (placed before xs))
+later at before [] low = tt
+later at before (x ∷ xs) low = (less_is at (before + 1) low, later at (before + 1) xs (omega arith))
+
+rises_from : {A : Type 0} (before : ℕ) (xs : List A) → IsStrictlySortedBy nat_cmp (keys_of (placed before xs))
+unfolding IsStrictlySortedBy
+rises_from before [] = tt
+rises_from before (x ∷ xs) = (later (before + 1) (before + 1) xs (omega arith), rises_from (before + 1) xs)
+
+placed_rises : {A : Type 0} (xs : List A) → IsStrictlySortedBy nat_cmp (keys_of (placed 0 xs))
+placed_rises xs = rises_from 0 xs
+
+second_of_placed : {A : Type 0} (before : ℕ) (xs : List A) → map (λ e. e.1) (placed before xs) ≡ xs
+second_of_placed before [] = refl
+second_of_placed before (x ∷ xs) = ap (λ l. x ∷ l) (second_of_placed (before + 1) xs)
 
 -- ---- the parts of an entry
 
@@ -104,12 +121,12 @@ module _ (ps : List ℕ) (tokens : FinMap nat_cmp (List ℕ)) where
       let parts = at_entry c a is in
       ap₂ entry_of parts.0 parts.1 ∙ (sym (get-airline_entries tokens ps c) ∙ is))
 
-  listed : (es : List (ℕ × AirlineEntry)) → AllByRecursion (λ e. IsAirlineEntry e × (entry_of e.1.place e.1.token ≡ Some e.1)) es → AllByRecursion IsListedAirline es
-  listed [] both = tt
-  listed (e ∷ es) both = (record { formed = both.0.0; some = both.0.1 }, listed es both.1)
+  listed : (es : List (ℕ × AirlineEntry)) → AllByRecursion IsAirlineEntry es → AllByRecursion (λ e. entry_of e.1.place e.1.token ≡ Some e.1) es → AllByRecursion IsListedAirline es
+  listed [] formed some = tt
+  listed (e ∷ es) formed some = (record { formed = formed.0; some = some.0 }, listed es formed.1 some.1)
 
   pub all_listed : AllByRecursion IsAirlineEntry (entries all) → AllByRecursion IsListedAirline (entries all)
-  all_listed formed = listed (entries all) (both_all IsAirlineEntry (λ e. entry_of e.1.place e.1.token ≡ Some e.1) (entries all) formed each_some)
+  all_listed formed = listed (entries all) formed each_some
 
   -- ---- the tokens
 
@@ -161,13 +178,6 @@ module _ (ps : List ℕ) (tokens : FinMap nat_cmp (List ℕ)) where
 
 -- ---- what is read of the rows of a plan
 
-module _ (p : Published) (tokens : FinMap nat_cmp (List ℕ)) (stored : PlanRows) (formed : IsFormedPlan p tokens) (are : AreRowsOfPlan p tokens stored) (rows : List Row) (value : rows ≡ stored.airlines.items)
-    (found : Option (Vec (ℕ × AirlineEntry) Global)) (reads : (values : List (ℕ × AirlineEntry)) → AllByRecursion IsListedAirline values → rows ≡ map airline_row values → IsSomeAnd found (λ v. v.items ≡ values)) where
-  their : IsSomeAnd found (λ v. v.items ≡ entries (airline_entries p.airlines tokens))
-  their = reads (entries (airline_entries p.airlines tokens)) (all_listed p.airlines tokens formed.airlines) (value ∙ are.airlines)
-
-  pub airlines_found : found ≡ None → ⊥
-  airlines_found none = subst (λ o. IsSomeAnd o (λ (v : Vec (ℕ × AirlineEntry) Global). v.items ≡ entries (airline_entries p.airlines tokens))) none their
-
-  pub airlines_are : (airlines : Vec (ℕ × AirlineEntry) Global) → found ≡ Some airlines → airlines.items ≡ entries (airline_entries p.airlines tokens)
-  airlines_are airlines is = subst (λ o. IsSomeAnd o (λ (v : Vec (ℕ × AirlineEntry) Global). v.items ≡ entries (airline_entries p.airlines tokens))) is their
+pub airlines_read : (p : Published) (tokens : FinMap nat_cmp (List ℕ)) → IsFormedPlan p tokens → (rows : List Row) → rows ≡ map airline_row (entries (airline_entries p.airlines tokens))
+    → AreReadAs (λ e row. IsListedAirline e × (row ≡ airline_row e)) rows (entries (airline_entries p.airlines tokens))
+airlines_read p tokens formed = are_read _ airline_row IsListedAirline (λ e listed. (listed, refl)) (entries (airline_entries p.airlines tokens)) (all_listed p.airlines tokens formed.airlines)

@@ -1,24 +1,24 @@
 -- The closed periods of a plan, closed one after another.
-use Rattle.std.proofs.Common.{◌≡◌, ℕ, Bool, true, List, [], ◌∷◌, map, Result, Ok, Err, refl, sym, ap, subst, ◌∙◌, nat_cmp}
-use Rattle.std.specs.Prelude.{IfOk, IsOk, Some}
+use Rattle.std.proofs.Common.{◌≡◌, ℕ, true, List, [], ◌∷◌, map, refl, sym, ap, subst, ◌∙◌, nat_cmp}
+use Rattle.std.specs.Prelude.{IsOk, Some}
 use Rattle.std.specs.FinMap.{FinMap, empty, entries, get}
-use Rattle.std.specs.List.{AllByRecursion, Contains}
+use Rattle.std.specs.List.{AllByRecursion}
 use Rattle.std.specs.declared.cmp.Ordering.{Ordering}
 use Rattle.std.specs.Cmp.{IsTotalOrder}
 use Rattle.std.specs.FinMap.{IsAntisymmetric}
 use Rattle.bsp_rows.specs.History.{IsReached}
 use Rattle.bsp_rows.specs.History.Request.{Close}
 use Rattle.bsp_rows.specs.Published.{Published}
-use Rattle.bsp_rows.proofs.ListLemmas.{contains_head, contains_tail}
-use Rattle.sqlite_value.specs.Order.{Row}
+use Rattle.bsp_rows.proofs.DemandLemmas.{for_all}
 use Rattle.bsp_rows.specs.Period.{Period}
 use Rattle.bsp_rows.specs.Rows.{Rows}
 use Rattle.bsp_rows.specs.Writes.{request_answer}
 use Rattle.bsp_rows.proofs.MapLemmas.{entry_get}
-use Rattle.bsp_store_base.specs.Columns.{period_row}
-use Rattle.bsp_store_base.specs.Forms.{IsPeriod}
-use Rattle.bsp_store_load.specs.Entries.{MayAll, after_all}
-use Rattle.bsp_store_load.specs.Stored.{MayClose, closing}
+use Rattle.bsp_memory_rows.specs.Tables.{rows_of}
+use Rattle.bsp_memory_rows.specs.declared.tables.Tables.{Tables}
+use Rattle.bsp_store_load.specs.Loading.{MayAll, after_all}
+use Rattle.bsp_store_load.specs.Formed.{IsRegisteredAirline, OnEach}
+use Rattle.bsp_store_load.specs.Stored.{ChangesPlan, ChangesTokens, MayClose, PutsPlan, closing}
 
 pub record Closes (P : Period → Type 0) (es : List (ℕ × Period)) (rows : Rows) (p : Published) : Type 0 where
   pub may : MayAll closing (MayClose P) es rows
@@ -36,30 +36,30 @@ closes_all P (e ∷ es) rows p all (next, accepted, reached) =
     }
 
 -- what holds of each entry that is found holds of all
-pub of_each : {A : Type 0} (P : A → Type 0) (xs : List A) → ((x : A) → Contains xs x → P x) → AllByRecursion P xs
-of_each P [] each = tt
-of_each P (x ∷ xs) each = (each x (contains_head x xs), of_each P xs (λ y has. each y (contains_tail x xs y has)))
-
 module _ {K X : Type 0} {R : K → K → Ordering} (o : IsTotalOrder R) (exact : IsAntisymmetric R) where
   pub of_entries : (P : K × X → Type 0) (m : FinMap R X) → ((k : K) (v : X) → get m k ≡ Some v → P (k, v)) → AllByRecursion P (entries m)
-  of_entries P m each = of_each P (entries m) (λ e has. each e.0 e.1 (entry_get o exact m e.0 e.1 has))
+  of_entries P m each = for_all P (entries m) (λ e has. each e.0 e.1 (entry_get o exact m e.0 e.1 has))
 
 -- one after the other changes the plan alone
-pub plan_alone : (old mid new : Rows) → mid ≡ record old { published = mid.published } → new ≡ record mid { published = new.published } → new ≡ record old { published = new.published }
-plan_alone old mid new first second = let with_plan : Rows → Rows = λ r. record r { published = new.published } in second ∙ ap with_plan first
-
--- and so it does where no airline gets a token
-pub plan_and_none : (old new : Rows) → new ≡ record old { published = new.published } → new ≡ record old { published = new.published; airlines = new.airlines }
-plan_and_none old new is =
-    let with_airlines : FinMap nat_cmp (List ℕ) → Rows = λ m. record old { published = new.published; airlines = m } in
-    is ∙ ap with_airlines (sym (ap (λ (r : Rows). r.airlines) is))
+pub plan_alone : (old mid new : Tables) → ChangesPlan old mid → ChangesPlan mid new → ChangesPlan old new
+plan_alone old mid new first second = record {
+  derived = λ is. second.derived (first.derived is);
+  others = second.others ∙ ap (λ (r : Rows). record r { published = (rows_of new).published }) first.others;
+}
 
 -- the plan, and then the tokens of airlines
-pub both_alone : (old mid new : Rows) → mid ≡ record old { published = mid.published } → new ≡ record mid { airlines = new.airlines } → new ≡ record old { published = new.published; airlines = new.airlines }
+pub both_alone : (old mid new : Tables) → ChangesPlan old mid → ChangesTokens mid new → PutsPlan old new
 both_alone old mid new first second =
-    let with_airlines : Rows → Rows = λ r. record r { airlines = new.airlines } in
-    let with_plan : Published → Rows = λ q. record old { published = q; airlines = new.airlines } in
-    second ∙ ap with_airlines first ∙ ap with_plan (sym (ap (λ (r : Rows). r.published) second))
+    let with_plan : Published → Rows = λ q. record (rows_of old) { published = q; airlines = (rows_of new).airlines } in
+    record {
+      derived = λ is. second.derived (first.derived is);
+      registered = λ each. second.registered (subst (OnEach IsRegisteredAirline) (sym (ap (λ (r : Rows). r.airlines) first.others)) each);
+      others = second.others ∙ ap (λ (r : Rows). record r { airlines = (rows_of new).airlines }) first.others ∙ ap with_plan (sym (ap (λ (r : Rows). r.published) second.others));
+    }
+
+-- and where no airline gets a token
+pub plan_and_none : (old new : Tables) → ChangesPlan old new → PutsPlan old new
+plan_and_none old new first = both_alone old new new first (record { derived = λ is. is; registered = λ each. each; others = refl })
 
 pub tokens_put : (p : Published) (tokens : FinMap nat_cmp (List ℕ)) (old mid new : Rows) → mid ≡ record old { published = p } → new ≡ record mid { airlines = new.airlines } → old.airlines ≡ empty
     → (mid.airlines ≡ empty → new.airlines ≡ tokens) → (true ≡ true) × (new ≡ record old { published = p; airlines = tokens })
@@ -67,12 +67,3 @@ tokens_put p tokens old mid new first second none put =
     let with_airlines : Rows → Rows = λ r. record r { airlines = new.airlines } in
     let with_tokens : FinMap nat_cmp (List ℕ) → Rows = λ m. record old { published = p; airlines = m } in
     (refl, second ∙ ap with_airlines first ∙ ap with_tokens (put (ap (λ (r : Rows). r.airlines) first ∙ none)))
-
--- what a call that closes the periods of rows ensures
-abbrev pub Closed : Rows → Rows → List Row → Bool → Type 0
-Closed old new list done = (es : List (ℕ × Period)) → MayAll closing (MayClose IsPeriod) es old → list ≡ map period_row es → (done ≡ true) × (new ≡ after_all closing es old)
-
--- what holds of an answer, by what holds of it
-pub if_ok_of : {A E : Type 0} (P Q : A → Type 0) (r : Result A E) → IfOk r P → ((x : A) → P x → Q x) → IfOk r Q
-if_ok_of P Q (Ok x) h so = so x h
-if_ok_of P Q (Err e) h so = tt

@@ -1,9 +1,9 @@
 -- Rows whose values the program's types have: their content, and what each write of the office leaves.
-use Rattle.std.proofs.Common.{◌≡◌, ◌≤◌, ◌<◌, ◌+◌, ◌^◌, ◌==◌, ℕ, Bool, true, false, cond, List, [], ◌∷◌, map, length, Option, Some, None, refl, sym, subst, ◌∙◌, arith, inl, inr}
+use Rattle.std.proofs.Common.{◌≡◌, ◌≤◌, ◌<◌, ◌+◌, ◌^◌, ◌==◌, ℕ, Bool, true, false, cond, List, [], ◌∷◌, map, length, Option, Some, None, refl, sym, subst, ◌∙◌, arith, inl, inr, Ordering}
 use Rattle.std.specs.Prelude.{◌++◌, not, if◌then◌else◌, nat_lt, IfOk, IfSome, IsTrue, Result, Ok, Err, slice_index_or}
 use Rattle.std.specs.Option.{ForSome, option_or}
-use Rattle.std.specs.FinMap.{FinMap, entries, get, nat_cmp-IsAntisymmetric, values}
-use Rattle.std.specs.Cmp.{nat_cmp_total}
+use Rattle.std.specs.FinMap.{FinMap, entries, get, nat_cmp-IsAntisymmetric, values, IsAntisymmetric, empty, get-empty, get-insert, get-remove, insert, remove}
+use Rattle.std.specs.Cmp.{nat_cmp_total, IsTotalOrder}
 use Rattle.std.specs.List.{AllByRecursion, cons_option, filter, filter_map}
 use Rattle.std.proofs.lemmas.Bool.{and_parts, eqb-true, or_cases}
 use Rattle.bsp_rows.specs.GroupValues.{second_of}
@@ -21,30 +21,60 @@ use Rattle.bsp_rows.specs.Requests.{closing, has_code, is_over, next_open, on_da
 use Rattle.bsp_rows.specs.Range.{Range}
 use Rattle.bsp_rows.specs.PostingsTallies.{is_item_under, is_memo_under}
 use Rattle.bsp_rows.specs.ReportedDocument.{ReportedDocument}
-use Rattle.bsp_rows.specs.Rows.{Rows, item_cmp, key_of, memo_key, no_rows, range_key}
+use Rattle.bsp_rows.specs.Rows.{Rows, key_of, memo_key, no_rows, range_key}
 use Rattle.bsp_rows.specs.Stored.{InEach, IsStoredDocument}
 use Rattle.bsp_rows.specs.Tallies.{key_tally, tally_of}
 use Rattle.bsp_rows.specs.Tally.{Tally}
-use Rattle.bsp_rows.specs.Writes.{ended, plan_left, with_agent_token, with_airline_token, with_billing, with_end, with_item, with_memo, with_range, without_range}
+use Rattle.bsp_rows.specs.Writes.{ended, plan_left, with_agent_token, with_airline_token, with_billing, with_end, with_item, with_memo, with_range, without_range, changed, changed_to}
 use Rattle.bsp_rows.specs.declared.keys.ItemKey.{ItemKey}
 use Rattle.bsp_rows.specs.declared.keys.MemoKey.{MemoKey}
 use Rattle.bsp_rows.specs.declared.keys.TallyKey.{TallyKey}
 use Rattle.bsp_rows.proofs.KeyOrders.{item_exact, item_total, memo_exact, memo_total, range_exact, range_total, tally_exact, tally_total}
-use Rattle.bsp_rows.proofs.MapLemmas.{same_Some}
+use Rattle.bsp_rows.proofs.MapLemmas.{same_Some, same_key}
 use Rattle.bsp_memory_rows.specs.Lookups.{has_rows}
 use Rattle.bsp_store_base.specs.Airlines.{airline_entries, entry_of, place_among, place_of}
 use Rattle.bsp_store_base.specs.Columns.{placed}
 use Rattle.bsp_store_base.specs.Content.{Content, content_with}
 use Rattle.bsp_store_base.specs.Forms.{IsAgent, IsAgentEntry, IsAirline, IsAirlineEntry, IsFormed, IsItemEntry, IsMemoEntry, IsRangeEntry, IsSecondEntry, IsTallyKey}
-use Rattle.bsp_store_base.specs.Seconds.{second_entry, second_pair, seconds_of, ticket}
+use Rattle.bsp_store_base.specs.Seconds.{second_entry, second_pair, ticket}
 use Rattle.bsp_store_base.specs.declared.airlines.AirlineEntry.{AirlineEntry}
-use Rattle.bsp_store_base.specs.declared.tickets.TicketKey.{TicketKey}
 use Rattle.bsp_store_base.proofs.AirlineLemmas.{get-airline_entries}
 use Rattle.bsp_store_base.proofs.SecondLemmas.{entries-seconds_of}
 use Rattle.bsp_store_load.specs.Contents.{IsContentOf, used}
 use Rattle.bsp_store_load.specs.Formed.{AreFormed, IsFormedItem, IsFormedMemo, IsFormedPublished, IsRegisteredAirline, OnEach}
 use Rattle.bsp_store_load.proofs.CloseLemmas.{of_entries}
-use Rattle.bsp_store_load.proofs.Forming.{each_changed, each_empty, each_inserted, each_removed}
+use Rattle.std.specs.Ordering.{eq_by_cmp}
+
+-- ---- conditions on each entry of a map
+
+module _ {K X : Type 0} {R : K → K → Ordering} (o : IsTotalOrder R) (exact : IsAntisymmetric R) (P : K × X → Type 0) where
+  -- at a key that is tied with another there is what is at that one
+  at_key : (q k : K) (x y : X) → eq_by_cmp R q k ≡ true → Some x ≡ Some y → P (k, x) → P (q, y)
+  at_key q k x y tie is own = subst P (λ i. (sym (same_key exact q k tie) i, same_Some x y is i)) own
+
+  pub each_inserted : (m : FinMap R X) (k : K) (x : X) → P (k, x) → OnEach P m → OnEach P (insert m k x)
+  each_inserted m k x own each q y at = go (eq_by_cmp R q k) refl (sym (get-insert o m k x q) ∙ at)
+    where
+      go : (b : Bool) → eq_by_cmp R q k ≡ b → cond b (Some x) (get m q) ≡ Some y → P (q, y)
+      go true tie is = at_key q k x y tie is own
+      go false tie is = each q y is
+
+  each_removed : (m : FinMap R X) (k : K) → OnEach P m → OnEach P (remove m k)
+  each_removed m k each q y at = go (eq_by_cmp R q k) (sym (get-remove o m k q) ∙ at)
+    where
+      go : (b : Bool) → cond b None (get m q) ≡ Some y → P (q, y)
+      go true is = absurd (cc is)
+      go false is = each q y is
+
+  each_changed : (m : FinMap R X) (k : K) (change : X → X) → ((x : X) → P (k, x) → P (k, change x)) → OnEach P m → OnEach P (changed change k m)
+  each_changed m k change so each = go (get m k) refl
+    where
+      go : (found : Option X) → get m k ≡ found → OnEach P (changed_to change k found m)
+      go None is = each
+      go (Some x) is = each_inserted m k (change x) (so x (each k x is)) each
+
+  pub each_empty : OnEach P (empty {R = R})
+  each_empty k x at = absurd (let none = sym (get-empty R k) ∙ at in cc none)
 
 -- ---- airlines
 
@@ -218,109 +248,53 @@ no_rows_formed = record {
 
 -- ---- what a write leaves
 
+-- rows that are formed table by table
+each_formed : (rows : Rows) → IsFormedPublished rows.published → OnEach IsAgentEntry rows.agents → OnEach IsRegisteredAirline rows.airlines → OnEach IsRangeEntry rows.ranges → OnEach IsFormedItem rows.items → OnEach IsFormedMemo rows.memos → AreFormed rows
+each_formed rows plan agents airlines ranges items memos = record { plan = plan; agents = agents; airlines = airlines; ranges = ranges; items = items; memos = memos }
+
 module _ (rows : Rows) (formed : AreFormed rows) where
   pub agent_formed : (agent : ℕ) (token : List ℕ) → IsAgentEntry (agent, token) → AreFormed (with_agent_token agent token rows)
-  agent_formed agent token own = record {
-    plan = formed.plan;
-    agents = each_inserted nat_cmp_total nat_cmp-IsAntisymmetric IsAgentEntry rows.agents agent token own formed.agents;
-    airlines = formed.airlines;
-    ranges = formed.ranges;
-    items = formed.items;
-    memos = formed.memos;
-  }
+  agent_formed agent token own =
+      each_formed _ formed.plan (each_inserted nat_cmp_total nat_cmp-IsAntisymmetric IsAgentEntry rows.agents agent token own formed.agents) formed.airlines formed.ranges formed.items formed.memos
 
   pub airline_token_formed : (airline : ℕ) (token : List ℕ) → IsRegisteredAirline (airline, token) → AreFormed (with_airline_token airline token rows)
-  airline_token_formed airline token own = record {
-    plan = formed.plan;
-    agents = formed.agents;
-    airlines = each_inserted nat_cmp_total nat_cmp-IsAntisymmetric IsRegisteredAirline rows.airlines airline token own formed.airlines;
-    ranges = formed.ranges;
-    items = formed.items;
-    memos = formed.memos;
-  }
+  airline_token_formed airline token own =
+      each_formed _ formed.plan formed.agents (each_inserted nat_cmp_total nat_cmp-IsAntisymmetric IsRegisteredAirline rows.airlines airline token own formed.airlines) formed.ranges formed.items formed.memos
 
   pub range_formed : (agent : ℕ) (range : Range) → IsRangeEntry (range_key agent range, range.last) → AreFormed (with_range agent range rows)
-  range_formed agent range own = record {
-    plan = formed.plan;
-    agents = formed.agents;
-    airlines = formed.airlines;
-    ranges = each_inserted range_total range_exact IsRangeEntry rows.ranges (range_key agent range) range.last own formed.ranges;
-    items = formed.items;
-    memos = formed.memos;
-  }
+  range_formed agent range own =
+      each_formed _ formed.plan formed.agents formed.airlines (each_inserted range_total range_exact IsRangeEntry rows.ranges (range_key agent range) range.last own formed.ranges) formed.items formed.memos
 
   pub no_range_formed : (agent : ℕ) (range : Range) → AreFormed (without_range agent range rows)
-  no_range_formed agent range = record {
-    plan = formed.plan;
-    agents = formed.agents;
-    airlines = formed.airlines;
-    ranges = each_removed range_total range_exact IsRangeEntry rows.ranges (range_key agent range) formed.ranges;
-    items = formed.items;
-    memos = formed.memos;
-  }
+  no_range_formed agent range =
+      each_formed _ formed.plan formed.agents formed.airlines (each_removed range_total range_exact IsRangeEntry rows.ranges (range_key agent range) formed.ranges) formed.items formed.memos
 
   pub item_formed : (item : Item) → IsFormedItem (key_of item, item) → AreFormed (with_item item rows)
-  item_formed item own = record {
-    plan = formed.plan;
-    agents = formed.agents;
-    airlines = formed.airlines;
-    ranges = formed.ranges;
-    items = each_inserted item_total item_exact IsFormedItem rows.items (key_of item) item own formed.items;
-    memos = formed.memos;
-  }
+  item_formed item own =
+      each_formed _ formed.plan formed.agents formed.airlines formed.ranges (each_inserted item_total item_exact IsFormedItem rows.items (key_of item) item own formed.items) formed.memos
 
   pub end_formed : (key : ItemKey) → AreFormed (with_end key rows)
-  end_formed key = record {
-    plan = formed.plan;
-    agents = formed.agents;
-    airlines = formed.airlines;
-    ranges = formed.ranges;
-    items = each_changed item_total item_exact IsFormedItem rows.items key ended
-        (λ i own. record { entry = record { agent = own.entry.agent; number = own.entry.number; period = own.entry.period; stored = own.entry.stored; tax = own.entry.tax; hundredths = own.entry.hundredths }; agent = own.agent }) formed.items;
-    memos = formed.memos;
-  }
+  end_formed key =
+      let items = each_changed item_total item_exact IsFormedItem rows.items key ended
+      (λ i own. record { entry = record { agent = own.entry.agent; number = own.entry.number; period = own.entry.period; stored = own.entry.stored; tax = own.entry.tax; hundredths = own.entry.hundredths }; agent = own.agent }) formed.items in
+      each_formed _ formed.plan formed.agents formed.airlines formed.ranges items formed.memos
 
   pub memo_formed : (memo : MemoFields) → IsFormedMemo (memo_key memo, memo) → AreFormed (with_memo memo rows)
-  memo_formed memo own = record {
-    plan = formed.plan;
-    agents = formed.agents;
-    airlines = formed.airlines;
-    ranges = formed.ranges;
-    items = formed.items;
-    memos = each_inserted memo_total memo_exact IsFormedMemo rows.memos (memo_key memo) memo own formed.memos;
-  }
+  memo_formed memo own =
+      each_formed _ formed.plan formed.agents formed.airlines formed.ranges formed.items (each_inserted memo_total memo_exact IsFormedMemo rows.memos (memo_key memo) memo own formed.memos)
 
   pub billing_formed : (key : MemoKey) (period : ℕ) → period < 10 ^ 5 → AreFormed (with_billing key period rows)
-  billing_formed key period own = record {
-    plan = formed.plan;
-    agents = formed.agents;
-    airlines = formed.airlines;
-    ranges = formed.ranges;
-    items = formed.items;
-    memos = each_changed memo_total memo_exact IsFormedMemo rows.memos key (billed_in period)
-        (λ m was. record { entry = record { airline = was.entry.airline; document = was.entry.document; agent = was.entry.agent; reason = was.entry.reason; issued = was.entry.issued; billed = own }; airline = was.airline }) formed.memos;
-  }
+  billing_formed key period own =
+      let memos = each_changed memo_total memo_exact IsFormedMemo rows.memos key (billed_in period)
+      (λ m was. record { entry = record { airline = was.entry.airline; document = was.entry.document; agent = was.entry.agent; reason = was.entry.reason; issued = was.entry.issued; billed = own }; airline = was.airline }) formed.memos in
+      each_formed _ formed.plan formed.agents formed.airlines formed.ranges formed.items memos
 
   pub plan_formed : (p : Published) → IsFormedPublished p → AreFormed (record rows { published = p })
-  plan_formed p own = record {
-    plan = own;
-    agents = formed.agents;
-    airlines = formed.airlines;
-    ranges = formed.ranges;
-    items = formed.items;
-    memos = formed.memos;
-  }
+  plan_formed p own = each_formed _ own formed.agents formed.airlines formed.ranges formed.items formed.memos
 
 -- a plan and registered airlines alone
 pub planned_formed : (rows : Rows) → rows ≡ record no_rows { published = rows.published; airlines = rows.airlines } → IsFormedPublished rows.published → OnEach IsRegisteredAirline rows.airlines → AreFormed rows
-planned_formed rows alone plan airlines = subst AreFormed (sym alone) (record {
-  plan = plan;
-  agents = no_rows_formed.agents;
-  airlines = airlines;
-  ranges = no_rows_formed.ranges;
-  items = no_rows_formed.items;
-  memos = no_rows_formed.memos;
-})
+planned_formed rows alone plan airlines = subst AreFormed (sym alone) (each_formed _ plan no_rows_formed.agents airlines no_rows_formed.ranges no_rows_formed.items no_rows_formed.memos)
 
 -- ---- what a request leaves of the plan
 
@@ -338,31 +312,10 @@ left_of P p (Ok plan) own made = made
 left_of P p (Err fault) own made = own
 
 module _ (p : Published) (formed : IsFormedPublished p) where
-  dated_formed : (day : CivilDay) → IsTrue (is_day day) → IsFormedPublished (record p { day = day })
-  dated_formed day own = record {
+  -- with another day, and other closed periods
+  changed_formed : (day : CivilDay) (closed : List ℕ) → IsTrue (is_day day) → length closed < 2 ^ 63 → IsFormedPublished (record p { day = day; closed = closed })
+  changed_formed day closed own few = record {
     day = own;
-    terms = formed.terms;
-    airlines = formed.airlines;
-    rates = formed.rates;
-    periods = formed.periods;
-    commission_taxes = formed.commission_taxes;
-    closed_count = formed.closed_count;
-    airline_count = formed.airline_count;
-    rate_count = formed.rate_count;
-    period_count = formed.period_count;
-    commission_tax_count = formed.commission_tax_count;
-  }
-
-  pub day_formed : (day : CivilDay) → IsTrue (is_day day) → IsFormedPublished (plan_left p (outcome p (SetDay day)))
-  day_formed day own = left_of IsFormedPublished p (on_day p day) formed (or_next IsFormedPublished _ _ (Ok (record p { day = day })) (dated_formed day own))
-
-  -- where its closed periods are not too many
-  abbrev IfFew : Published → Type 0
-  IfFew m = length m.closed < 2 ^ 63 → IsFormedPublished m
-
-  closes : (code : ℕ) → IfFew (record p { closed = p.closed ++ code ∷ [] })
-  closes code few = record {
-    day = formed.day;
     terms = formed.terms;
     airlines = formed.airlines;
     rates = formed.rates;
@@ -374,6 +327,16 @@ module _ (p : Published) (formed : IsFormedPublished p) where
     period_count = formed.period_count;
     commission_tax_count = formed.commission_tax_count;
   }
+
+  pub day_formed : (day : CivilDay) → IsTrue (is_day day) → IsFormedPublished (plan_left p (outcome p (SetDay day)))
+  day_formed day own = left_of IsFormedPublished p (on_day p day) formed (or_next IsFormedPublished _ _ (Ok (record p { day = day })) (changed_formed day p.closed own formed.closed_count))
+
+  -- where its closed periods are not too many
+  abbrev IfFew : Published → Type 0
+  IfFew m = length m.closed < 2 ^ 63 → IsFormedPublished m
+
+  closes : (code : ℕ) → IfFew (record p { closed = p.closed ++ code ∷ [] })
+  closes code few = changed_formed p.day (p.closed ++ code ∷ []) formed.day few
 
   second : (code : ℕ) → IfOk (if not (is_over p (next_open p)) then Err NotOver else Ok (record p { closed = p.closed ++ code ∷ [] })) IfFew
   second code = or_next IfFew (not (is_over p (next_open p))) NotOver (Ok (record p { closed = p.closed ++ code ∷ [] })) (closes code)

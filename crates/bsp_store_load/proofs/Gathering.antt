@@ -6,7 +6,7 @@ use Rattle.std.specs.Cmp.{IsTotalOrder}
 use Rattle.std.specs.FinMap.{FinMap, IsAntisymmetric, empty, get, get-empty, get-insert, same_map}
 use Rattle.bsp_rows.proofs.ListLemmas.{contains_cases, contains_head, contains_none, contains_tail}
 use Rattle.bsp_rows.proofs.MapLemmas.{get_written, same_Some, same_key}
-use Rattle.bsp_store_load.specs.Gathered.{gathered, with_pair}
+use Rattle.bsp_store_load.specs.Stored.{gathered, with_pair}
 
 -- an element that gives this pair
 abbrev pub Gives : {A K V : Type 0} → (A → Option (K × V)) → List A → K → V → Type 0

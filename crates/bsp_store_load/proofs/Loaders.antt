@@ -1,19 +1,49 @@
 -- A table whose rows are put into memory as the entries of a map: what is known of it, and of a call that puts its rows.
-use Rattle.std.proofs.Common.{◌≡◌, List, [], ◌∷◌, ◌++◌, map, Option, None, refl, sym, ap, subst, ◌∙◌, Ordering, append-nil}
+use Rattle.std.proofs.Common.{◌≡◌, List, [], ◌∷◌, ◌++◌, map, Option, None, refl, sym, ap, subst, ◌∙◌, Ordering, append-nil, Some, cond, Less, Greater, is_eq}
 use Rattle.std.specs.Cmp.{IsTotalOrder}
-use Rattle.std.specs.FinMap.{FinMap, empty, entries, entries_sorted, get, insert}
+use Rattle.std.specs.FinMap.{FinMap, empty, entries, entries_sorted, get, insert, get-empty, get-insert}
 use Rattle.std.specs.List.{AllByRecursion}
 use Rattle.std.proofs.lemmas.List.Sorted.{IsPermutation-trans}
-use Rattle.std.specs.Prelude.{IsPermutation}
+use Rattle.std.specs.Prelude.{IsPermutation, T}
 use Rattle.sqlite_value.specs.Order.{Row}
 use Rattle.sqlite_trees.specs.Tree.{Trees}
 use Rattle.bsp_store_base.specs.Content.{Content, form, width_of}
 use Rattle.bsp_store_base.specs.Forms.{IsFormed}
 use Rattle.bsp_store_base.specs.Kept.{KeepsRows, Part, columns_of}
-use Rattle.bsp_store_load.specs.Entries.{after_all}
-use Rattle.bsp_store_load.specs.Loading.{IsLoaded, LeavesRow, and_after}
-use Rattle.bsp_store_load.proofs.Fresh.{all_may, no_entries, none_in}
+use Rattle.bsp_store_load.specs.Loading.{IsLoaded, LeavesRow, MayAll, after_all, and_after}
 use Rattle.bsp_store_load.proofs.PutLemmas.{inserted, inserted_all}
+use Rattle.std.specs.FinMap.Entries.{below_all, is_sorted}
+use Rattle.std.specs.Ordering.{is_lt, ordering_reverse}
+use Rattle.bsp_maps.proofs.OrderLemmas.{no_entries}
+use Rattle.bsp_maps.proofs.Orderings.{first, less, second}
+
+-- ---- the entries of a map, put into rows that have none
+
+module _ {K V : Type 0} {R : K → K → Ordering} (o : IsTotalOrder R) where
+  -- a key above one that is put has none still
+  still_none : (m : FinMap R V) (k q : K) (v : V) → R k q ≡ Less → get m q ≡ None → get (insert m k v) q ≡ None
+  still_none m k q v up none =
+      let above : R q k ≡ Greater = o.antisymm q k ∙ ap ordering_reverse up in
+      get-insert o m k v q ∙ ap (λ r. cond (is_eq r) (Some v) (get m q)) above ∙ none
+
+  none_above : (m : FinMap R V) (k : K) (v : V) (es : List (K × V)) → T (below_all R k es) → AllByRecursion (λ e. get m e.0 ≡ None) es → AllByRecursion (λ e. get (insert m k v) e.0 ≡ None) es
+  none_above m k v [] up none = tt
+  none_above m k v (e ∷ es) up none =
+      (still_none m k e.0 v (less (R k e.0) (first (is_lt (R k e.0)) (below_all R k es) up)) none.0, none_above m k v es (second (is_lt (R k e.0)) (below_all R k es) up) none.1)
+
+  none_in : (m : FinMap R V) → m ≡ empty → (es : List (K × V)) → AllByRecursion (λ e. get m e.0 ≡ None) es
+  none_in m none [] = tt
+  none_in m none (e ∷ es) = (ap (λ n. get n e.0) none ∙ get-empty R e.0, none_in m none es)
+
+  module _ {W : Type 0} (of : W → FinMap R V) (step : K × V → W → W) (fits : K × V → Type 0) (lacks : K × V → W → Type 0)
+      (steps : (e : K × V) (w : W) → fits e → of (step e w) ≡ insert (of w) e.0 e.1) (free : (e : K × V) (w : W) → fits e → get (of w) e.0 ≡ None → lacks e w) where
+    all_may : (es : List (K × V)) (w : W) → T (is_sorted R es) → AllByRecursion fits es → AllByRecursion (λ e. get (of w) e.0 ≡ None) es → MayAll step (λ e v. fits e × lacks e v) es w
+    all_may [] w up fit none = tt
+    all_may (e ∷ es) w up fit none = (
+      (fit.0, free e w fit.0 none.0),
+      all_may es (step e w) (second (below_all R e.0 es) (is_sorted R es) up) fit.1
+          (subst (λ m. AllByRecursion (λ f. get m f.0 ≡ None) es) (sym (steps e w fit.0)) (none_above (of w) e.0 e.1 es (first (below_all R e.0 es) (is_sorted R es) up) none.1)),
+    )
 
 pub record Loader (K V W : Type 0) (R : K → K → Ordering) (fits : K × V → Type 0) (lacks : K × V → W → Type 0) : Type 0 where
   pub total : IsTotalOrder R
@@ -62,7 +92,7 @@ module _ {K V W : Type 0} {R : K → K → Ordering} {fits : K × V → Type 0} 
       -- all rows of the table are in memory
       pub rows_here : left ≡ None → IsPermutation (map (columns_of (width_of t.part.tree)) (trees t.part.tree)) (rows_in new)
       rows_here end =
-          let bare : rows_in old ≡ [] = ap (map t.row_of) (no_entries (t.of old) none) in
+          let bare : rows_in old ≡ [] = ap (map t.row_of) (ap entries none ∙ no_entries R) in
           let put = subst (λ l. IsPermutation l (rows_in new)) (ap (λ l. loaded.before ++ l) bare ∙ append-nil loaded.before) loaded.put in
           let whole : loaded.before ++ and_after left loaded.after ≡ loaded.before = ap (λ o. loaded.before ++ and_after o loaded.after) end ∙ append-nil loaded.before in
           IsPermutation-trans _ _ _ (subst (IsPermutation _) whole loaded.are.in_any_order) put

@@ -10,7 +10,7 @@ use Rattle.bsp_rows.specs.declared.keys.ItemKey.{ItemKey}
 use Rattle.bsp_rows.specs.MemoFields.{MemoFields}
 use Rattle.bsp_rows.specs.declared.keys.MemoKey.{MemoKey}
 use Rattle.bsp_store_base.specs.Columns.{airline_text, count, item_row, memo_row, period_text, taxes_text}
-use Rattle.bsp_store_load.specs.Entries.{has_real, is_real}
+use Rattle.bsp_store_load.specs.Loading.{has_real, is_real}
 
 plain_or : {A : Type 0} (f : A → Value) (o : Option A) → ((x : A) → is_real (f x) ≡ false) → is_real (or_null f o) ≡ false
 plain_or f None plain = refl

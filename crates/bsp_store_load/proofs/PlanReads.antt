@@ -1,112 +1,86 @@
 -- The entries of a plan, read of rows one after another.
-use Rattle.std.proofs.Common.{◌≡◌, ℕ, zero, suc, ◌+◌, ◌<◌, ◌≤◌, List, [], ◌∷◌, ◌++◌, map, length, take, get_or, Option, Some, None, refl, sym, ap, subst, ◌∙◌, arith}
+use Rattle.std.proofs.Common.{◌≡◌, ℕ, ◌+◌, ◌<◌, ◌≤◌, List, [], ◌∷◌, ◌++◌, map, length, drop, get_or, Option, Some, None, refl, sym, ap, subst, ◌∙◌, arith, append_assoc, append-nil}
+use Rattle.std.specs.Prelude.{IsSomeAnd}
 use Rattle.std.specs.List.{AllByRecursion}
-use Rattle.std.proofs.lemmas.List.{get_or-map, length-map, take_all, take_more}
-use Rattle.bsp_store_base.specs.Columns.{placed}
+use Rattle.std.proofs.lemmas.List.{at_drop_more, drop_all}
 use Rattle.bsp_rows.proofs.MapLemmas.{same_Some}
+use Rattle.bsp_store_base.specs.Columns.{placed}
+use Rattle.bsp_store_load.specs.Stored.{AreReadAs}
 
--- each place is at most the count of the values
-places_from : {A : Type 0} (most before : ℕ) (xs : List A) → before + length xs < most → AllByRecursion (λ e. e.0 < most) (placed before xs)
-places_from most before [] few = tt
-places_from most before (x ∷ xs) few = (omega arith, places_from most (before + 1) xs (omega arith))
+-- what is true of each place up to the count of the values is true of theirs
+places_from : {A : Type 0} (P : ℕ × A → Type 0) (most : ℕ) → ((e : ℕ × A) → e.0 < most → P e) → (before : ℕ) (xs : List A) → before + length xs < most → AllByRecursion P (placed before xs)
+places_from P most so before [] few = tt
+places_from P most so before (x ∷ xs) few = (so (before + 1, x) (omega arith), places_from P most so (before + 1) xs (omega arith))
 
-pub places_fit : {A : Type 0} (most : ℕ) (xs : List A) → length xs < most → AllByRecursion (λ e. e.0 < most) (placed 0 xs)
-places_fit most xs few = places_from most 0 xs (omega arith)
+pub places_fit : {A : Type 0} (P : ℕ × A → Type 0) (most : ℕ) → ((e : ℕ × A) → e.0 < most → P e) → (xs : List A) → length xs < most → AllByRecursion P (placed 0 xs)
+places_fit P most so xs few = places_from P most so 0 xs (omega arith)
 
 pub length-placed : {A : Type 0} (before : ℕ) (xs : List A) → length (placed before xs) ≡ length xs
 length-placed before [] = refl
 length-placed before (x ∷ xs) = let more = length-placed (before + 1) xs in omega (arith, more)
 
-each_of : {A : Type 0} (P : A → Type 0) (xs : List A) (i : ℕ) (d : A) → AllByRecursion P xs → i < length xs → P (get_or xs i d)
-each_of P [] i d all below = absurd (omega arith)
-each_of P (x ∷ xs) zero d all below = all.0
-each_of P (x ∷ xs) (suc i) d all below = each_of P xs i d all.1 (omega arith)
+-- ---- what all rows read as, one after another
 
-module _ {A R : Type 0} (row_of : ℕ × A → R) where
-  place_is : (before : ℕ) (xs : List A) (i : ℕ) (r : R) (d : A) → i < length xs → get_or (map row_of (placed before xs)) i r ≡ row_of (before + i + 1, get_or xs i d)
-  place_is before [] i r d below = absurd (omega arith)
-  place_is before (x ∷ xs) zero r d below = let same : before + 1 ≡ before + 0 + 1 = omega arith in ap (λ n. row_of (n, x)) same
-  place_is before (x ∷ xs) (suc i) r d below =
-      let same : before + 1 + i + 1 ≡ before + suc i + 1 = omega arith in
-      place_is (before + 1) xs i r d (omega arith) ∙ ap (λ n. row_of (n, get_or xs i d)) same
+-- what was found
+module _ {X : Type 0} (P : X → Type 0) (found : Option X) (it : IsSomeAnd found P) where
+  pub not_none : found ≡ None → ⊥
+  not_none none = subst (λ o. IsSomeAnd o P) none it
 
-  long : (xs : List A) (rows : List R) → rows ≡ map row_of (placed 0 xs) → length rows ≡ length xs
-  long xs rows same = ap length same ∙ length-map (placed 0 xs) row_of ∙ length-placed 0 xs
+  pub found_is : (x : X) → found ≡ Some x → P x
+  found_is x some = subst (λ o. IsSomeAnd o P) some it
 
-  module _ (P : A → Type 0) where
-    -- the next row is that of the next value
-    record IsAt (xs : List A) (i : ℕ) (row : R) : Type 0 where
-      place : ℕ
-      value : A
-      fits : P value
-      is : row ≡ row_of (place, value)
-      more : take (i + 1) xs ≡ take i xs ++ value ∷ []
+module _ {Row V : Type 0} (is_in : V → Row → Type 0) where
+  -- the rows of values, each of which reads as its value
+  pub are_read : (row_of : V → Row) (P : V → Type 0) → ((v : V) → P v → is_in v (row_of v)) → (values : List V) → AllByRecursion P values → (rows : List Row) → rows ≡ map row_of values → AreReadAs is_in rows values
+  are_read row_of P back values all rows same = subst (λ l. AreReadAs is_in l values) (sym same) (go values all)
+    where
+      go : (values : List V) → AllByRecursion P values → AreReadAs is_in (map row_of values) values
+      go [] all = tt
+      go (v ∷ values) all = (back v all.0, go values all.1)
 
-    at_next : (xs : List A) (rows : List R) (i : ℕ) (row : R) → AllByRecursion P xs → rows ≡ map row_of (placed 0 xs) → i < length rows → row ≡ get_or rows i row → IsAt xs i row
-    at_next [] rows i row all same below at = let none = long [] rows same in absurd (omega arith)
-    at_next (x ∷ xs) rows i row all same below at =
-        let count = long (x ∷ xs) rows same in
-        let within : i < length (x ∷ xs) = omega (arith, count) in
-        record {
-          place = 0 + i + 1;
-          value = get_or (x ∷ xs) i x;
-          fits = each_of P (x ∷ xs) i x all within;
-          is = at ∙ ap (λ l. get_or l i row) same ∙ place_is 0 (x ∷ xs) i row x within;
-          more = take_more (x ∷ xs) i x within;
-        }
+  -- those of values with their places
+  pub placed_read : (row_of : ℕ × V → Row) (P : V → Type 0) → ((place : ℕ) (v : V) → P v → is_in v (row_of (place, v))) → (values : List V) → AllByRecursion P values → (rows : List Row) → rows ≡ map row_of (placed 0 values) → AreReadAs is_in rows values
+  placed_read row_of P back values all rows same = subst (λ l. AreReadAs is_in l values) (sym same) (go 0 values all)
+    where
+      go : (before : ℕ) (values : List V) → AllByRecursion P values → AreReadAs is_in (map row_of (placed before values)) values
+      go before [] all = tt
+      go before (v ∷ values) all = (back (before + 1) v all.0, go (before + 1) values all.1)
 
-    module _ (xs : List A) (rows : List R) (i : ℕ) (row : R) (o : Option A) (all : AllByRecursion P xs) (same : rows ≡ map row_of (placed 0 xs)) (below : i < length rows) (at : row ≡ get_or rows i row)
-        (back : (place : ℕ) (x : A) → P x → row ≡ row_of (place, x) → o ≡ Some x) where
-      -- it does not read as nothing
+  -- what is left of the values, as the rows that are left read
+  pub record IsReadSoFar (rows : List Row) (i : ℕ) (found values : List V) : Type 0 where
+    pub rest : List V
+    pub is : values ≡ found ++ rest
+    pub left : AreReadAs is_in (drop i rows) rest
+
+  none_left : (values : List V) → AreReadAs is_in [] values → values ≡ []
+  none_left [] all = refl
+  none_left (v ∷ values) all = absurd all
+
+  module _ (rows : List Row) (i : ℕ) (found values : List V) (so_far : IsReadSoFar rows i found values) where
+    -- all were read
+    pub all_read : length rows ≤ i → found ≡ values
+    all_read past =
+        let none = none_left so_far.rest (subst (λ l. AreReadAs is_in l so_far.rest) (drop_all i rows past) so_far.left) in
+        sym (so_far.is ∙ ap (λ l. found ++ l) none ∙ append-nil found)
+
+    module _ (row : Row) (below : i < length rows) (at : row ≡ get_or rows i row) (o : Option V) (read : (v : V) → is_in v row → o ≡ Some v) where
+      next : (rest : List V) → AreReadAs is_in (row ∷ drop (i + 1) rows) rest → (v : V) × (others : List V) × (rest ≡ v ∷ others) × (o ≡ Some v) × AreReadAs is_in (drop (i + 1) rows) others
+      next [] all = absurd all
+      next (v ∷ others) all = (v, others, refl, read v all.0, all.1)
+
+      here : (v : V) × (others : List V) × (so_far.rest ≡ v ∷ others) × (o ≡ Some v) × AreReadAs is_in (drop (i + 1) rows) others
+      here = next so_far.rest (subst (λ l. AreReadAs is_in l so_far.rest) (at_drop_more (λ l. l) rows i row below ∙ ap (λ r. r ∷ drop (i + 1) rows) (sym at)) so_far.left)
+
+      -- the next does not read as nothing
       pub reads_some : o ≡ None → ⊥
-      reads_some none = let n = at_next xs rows i row all same below at in let some = back n.place n.value n.fits n.is in cc (some, none)
+      reads_some none = let some = here.3 in cc (some, none)
 
-      -- the value is the next
-      pub reads_on : (x : A) (before after : List A) → o ≡ Some x → after ≡ before ++ x ∷ [] → before ≡ take i xs → after ≡ take (i + 1) xs
-      reads_on x before after read is so_far =
-          let n = at_next xs rows i row all same below at in
-          let value : x ≡ n.value = same_Some x n.value (sym read ∙ back n.place n.value n.fits n.is) in
-          is ∙ ap (λ l. l ++ x ∷ []) so_far ∙ ap (λ v. take i xs ++ v ∷ []) value ∙ sym n.more
-
-  -- all were read
-  pub all_read : (xs : List A) (rows : List R) (i : ℕ) (found : List A) → rows ≡ map row_of (placed 0 xs) → length rows ≤ i → found ≡ take i xs → found ≡ xs
-  all_read xs rows i found same past so_far = let count = long xs rows same in so_far ∙ take_all i xs (omega (arith, count))
-
--- ---- the rows of entries that have no places
-
--- the element at a place
-at_place : {A : Type 0} (xs : List A) (i : ℕ) → i < length xs → (x : A) × (x ≡ get_or xs i x)
-at_place [] i below = absurd (omega arith)
-at_place (x ∷ xs) zero below = (x, refl)
-at_place (x ∷ xs) (suc i) below = let n = at_place xs i (omega arith) in (n.0, n.1)
-
-module _ {A R : Type 0} (row_of : A → R) (P : A → Type 0) (xs : List A) (rows : List R) (same : rows ≡ map row_of xs) where
-  count_same : length rows ≡ length xs
-  count_same = ap length same ∙ length-map xs row_of
-
-  module _ (i : ℕ) (row : R) (o : Option A) (all : AllByRecursion P xs) (below : i < length rows) (at : row ≡ get_or rows i row) (back : (x : A) → P x → row ≡ row_of x → o ≡ Some x) where
-    entry_read : (x : A) → x ≡ get_or xs i x → P x → o ≡ Some x
-    entry_read x is fits =
-        let count = count_same in
-        back x fits (at ∙ ap (λ l. get_or l i row) same ∙ get_or-map row_of xs i x row (omega (arith, count)) ∙ ap row_of (sym is))
-
-    next_entry : (x : A) × (o ≡ Some x) × (take (i + 1) xs ≡ take i xs ++ x ∷ [])
-    next_entry =
-        let count = count_same in
-        let n = at_place xs i (omega (arith, count)) in
-        (n.0, entry_read n.0 n.1 (subst P (sym n.1) (each_of P xs i n.0 all (omega (arith, count)))), take_more xs i n.0 (omega (arith, count)) ∙ ap (λ v. take i xs ++ v ∷ []) (sym n.1))
-
-    -- it does not read as nothing
-    pub entry_some : o ≡ None → ⊥
-    entry_some none = let n = next_entry in let some = n.1 in cc (some, none)
-
-    -- the entry is the next
-    pub entry_next : (x : A) (before after : List A) → o ≡ Some x → after ≡ before ++ x ∷ [] → before ≡ take i xs → after ≡ take (i + 1) xs
-    entry_next x before after read is so_far =
-        let n = next_entry in
-        let value : x ≡ n.0 = same_Some x n.0 (sym read ∙ n.1) in
-        is ∙ ap (λ l. l ++ x ∷ []) so_far ∙ ap (λ v. take i xs ++ v ∷ []) value ∙ sym n.2
-
-  -- all were read
-  pub entries_read : (i : ℕ) (found : List A) → length rows ≤ i → found ≡ take i xs → found ≡ xs
-  entries_read i found past so_far = let count = count_same in so_far ∙ take_all i xs (omega (arith, count))
+      pub reads_on : (x : V) (after : List V) → o ≡ Some x → after ≡ found ++ x ∷ [] → IsReadSoFar rows (i + 1) after values
+      reads_on x after some is =
+          let h = here in
+          let value : x ≡ h.0 = same_Some x h.0 (sym some ∙ h.3) in
+          record {
+            rest = h.1;
+            is = so_far.is ∙ ap (λ l. found ++ l) h.2 ∙ ap (λ v. found ++ v ∷ h.1) (sym value) ∙ sym (append_assoc found (x ∷ []) h.1) ∙ ap (λ l. l ++ h.1) (sym is);
+            left = h.4;
+          }

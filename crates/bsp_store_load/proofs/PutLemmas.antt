@@ -1,7 +1,7 @@
 -- Entries put one after another into a map that has none are the map's.
 use Rattle.std.proofs.Common.{◌≡◌, ℕ, ◌+◌, ◌<◌, ◌≤◌, Bool, true, List, [], ◌∷◌, ◌++◌, map, length, drop, get_or, refl, sym, ap, subst, ◌∙◌, arith, Ordering, Less, Greater, append_assoc, append-nil}
 use Rattle.std.specs.Cmp.{IsTotalOrder}
-use Rattle.std.specs.FinMap.{FinMap, empty, insert, entries, entries-insert, entries_sorted, same_entries_map, len-empty, len-entries}
+use Rattle.std.specs.FinMap.{FinMap, empty, insert, entries, entries-insert, entries_sorted, same_entries_map}
 use Rattle.std.specs.Prelude.{T}
 use Rattle.std.specs.FinMap.Entries.{put, by_order, is_sorted, below_all}
 use Rattle.std.specs.Ordering.{is_lt}
@@ -11,8 +11,8 @@ use Rattle.std.specs.List.Sorted.{IsStrictlySortedBy}
 use Rattle.std.specs.Map.{keys_of}
 use Rattle.std.specs.Ordering.{ordering_reverse}
 use Rattle.std.proofs.lemmas.List.{at_drop_more, drop_all, length-map, get_or-map}
-use Rattle.bsp_maps.proofs.OrderLemmas.{no_length}
-use Rattle.bsp_store_load.specs.Entries.{MayAll, after_all}
+use Rattle.bsp_maps.proofs.OrderLemmas.{no_entries}
+use Rattle.bsp_store_load.specs.Loading.{MayAll, after_all}
 
 -- ---- at the end of a map
 
@@ -58,7 +58,7 @@ module _ {K X : Type 0} {R : K → K → Ordering} (o : IsTotalOrder R) where
   -- a map is made of its entries
   pub inserted_all : (m : FinMap R X) → inserted empty (entries m) ≡ m
   inserted_all m =
-      let none : entries (empty {X = X} {R = R}) ≡ [] = no_length _ (sym (len-entries (empty {X = X} {R = R})) ∙ len-empty R X) in
+      let none : entries (empty {X = X} {R = R}) ≡ [] = no_entries R in
       let up : IsStrictlySortedBy R (keys_of (entries (empty {X = X} {R = R}) ++ entries m)) = subst (λ l. IsStrictlySortedBy R (keys_of (l ++ entries m))) (sym none) (strictly R (entries m) (entries_sorted m)) in
       same_entries_map _ _ (entries-inserted o empty (entries m) up ∙ ap (λ l. l ++ entries m) none)
 

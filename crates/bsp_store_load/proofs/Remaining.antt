@@ -1,55 +1,70 @@
 -- The rows that are left against the entries that are left, one after another.
 use Rattle.std.proofs.Common.{◌≡◌, ℕ, ◌+◌, ◌<◌, ◌≤◌, Bool, true, false, cond, List, [], ◌∷◌, map, length, drop, get_or, ◌==◌, IsTrue, sym, ap, subst, ◌∙◌, arith}
 use Rattle.std.specs.List.{AllByRecursion, filter}
-use Rattle.std.proofs.lemmas.List.{at_drop_more, drop_all, length-drop}
+use Rattle.std.proofs.lemmas.List.{at_drop_more, drop_all}
 use Rattle.bsp_maps.proofs.OrderLemmas.{no_length}
 use Rattle.bsp_store_base.specs.Columns.{placed}
 
--- a list that is found empty
-pub found_empty : {A : Type 0} (rest : List A) (b : Bool) → b ≡ (length rest == 0) → rest ≡ [] → IsTrue b
-found_empty rest b is none = is ∙ ap (λ l. length l == 0) none
+-- the rows are those of all entries, each of which may have one, exactly where what is left is that of the entries left
+pub record AreLeft {A Row : Type 0} (row_of : A → Row) (P : A → Type 0) (rows : List Row) (all : List A) (rest : List Row) (now : List A) : Type 0 where
+  pub same : rest ≡ map row_of now → rows ≡ map row_of all
+  pub whole : AllByRecursion P all → rows ≡ map row_of all → (rest ≡ map row_of now) × AllByRecursion P now
 
--- a test that failed, and holds
-pub not_false : (b : Bool) → b ≡ false → IsTrue b → IsTrue false
-not_false b is holds = subst IsTrue is holds
+zero : (n : ℕ) → (n == 0) ≡ true → n ≡ 0
+zero n h = grind arith
 
-module _ {A Row : Type 0} (row_of : A → Row) (P : A → Type 0) where
-  -- the rows are those of the entries, each of which may have one
-  abbrev pub AreLeft : List A → List Row → Type 0
-  AreLeft es rest = (rest ≡ map row_of es) × AllByRecursion P es
+module _ {A Row : Type 0} {row_of : A → Row} {P : A → Type 0} {rows : List Row} {all : List A} {rest : List Row} {now : List A} (left : AreLeft row_of P rows all rest now) where
+  -- no entry is left
+  pub ended : now ≡ [] → (b : Bool) → b ≡ (length rest == 0) → (IsTrue b → rows ≡ map row_of all) × (AllByRecursion P all → rows ≡ map row_of all → IsTrue b)
+  ended end b is = (
+    λ t. left.same (no_length rest (zero (length rest) (sym is ∙ t)) ∙ sym (ap (map row_of) end)),
+    λ fits are. is ∙ ap (λ l. length l == 0) ((left.whole fits are).0 ∙ ap (map row_of) end),
+  )
 
-  pub none_left : (es : List A) (rest : List Row) → es ≡ [] → AreLeft es rest → rest ≡ []
-  none_left es rest end left = left.0 ∙ ap (map row_of) end
+  module _ {e : A} {next : List A} (more : now ≡ e ∷ next) where
+    next_of : AllByRecursion P all → rows ≡ map row_of all → (rest ≡ map row_of (e ∷ next)) × AllByRecursion P (e ∷ next)
+    next_of fits are = subst (λ l. (rest ≡ map row_of l) × AllByRecursion P l) more (left.whole fits are)
 
-  -- there is a next row
-  pub not_none : (e : A) (next : List A) (rest : List Row) → rest ≡ [] → AreLeft (e ∷ next) rest → IsTrue false
-  not_none e next rest none left = absurd (cc left.0)
+    -- there is a row for it
+    pub some_left : length rest ≡ 0 → AllByRecursion P all → rows ≡ map row_of all → IsTrue false
+    some_left none fits are = let row = sym (no_length rest none) ∙ (next_of fits are).0 in absurd (cc row)
 
-  pub next_left : (e : A) (next : List A) (rest others : List Row) (row : Row) → rest ≡ row ∷ others → AreLeft (e ∷ next) rest → (row ≡ row_of e) × (P e × AreLeft next others)
-  next_left e next rest others row is left = (cc left.0, (left.1.0, (cc left.0, left.1.1)))
+    module _ {row : Row} {others : List Row} (first : rest ≡ row ∷ others) where
+      same_first : AllByRecursion P all → rows ≡ map row_of all → row ∷ others ≡ row_of e ∷ map row_of next
+      same_first fits are = sym first ∙ (next_of fits are).0
 
-  module _ (has : A → Bool) where
-    pub skipped : (now next : List A) (e : A) (rest : List Row) → now ≡ e ∷ next → has e ≡ false → AreLeft (filter has now) rest → AreLeft (filter has next) rest
-    skipped now next e rest is unlike = subst (λ l. AreLeft l rest) (ap (filter has) is ∙ ap (λ b. cond b (e ∷ filter has next) (filter has next)) unlike)
+      -- it is the next row
+      pub must_be : (b : Bool) → b ≡ false → (P e → row ≡ row_of e → IsTrue b) → AllByRecursion P all → rows ≡ map row_of all → IsTrue false
+      must_be b fails so fits are = let same = same_first fits are in subst IsTrue fails (so (next_of fits are).1.0 (cc same))
 
-    pub taken : (now next : List A) (e : A) (rest : List Row) → now ≡ e ∷ next → has e ≡ true → AreLeft (filter has now) rest → AreLeft (e ∷ filter has next) rest
-    taken now next e rest is like = subst (λ l. AreLeft l rest) (ap (filter has) is ∙ ap (λ b. cond b (e ∷ filter has next) (filter has next)) like)
+      pub taken : row ≡ row_of e → AreLeft row_of P rows all others next
+      taken is = record {
+        same = λ h. left.same (first ∙ (λ i. is i ∷ h i) ∙ sym (ap (map row_of) more));
+        whole = λ fits are. let same = same_first fits are in (cc same, (next_of fits are).1.1);
+      }
 
--- ---- values with their places
+-- ---- the entries of which a test holds, and values with their places
 
-module _ {A Row : Type 0} (row_of : ℕ × A → Row) (P : ℕ × A → Type 0) where
-  pub next_placed : (values : List A) (i : ℕ) (v : A) (rest : List Row) → i < length values → v ≡ get_or values i v → AreLeft row_of P (placed i (drop i values)) rest
-      → AreLeft row_of P ((i + 1, v) ∷ placed (i + 1) (drop (i + 1) values)) rest
-  next_placed values i v rest below is =
-      subst (λ l. AreLeft row_of P l rest) (at_drop_more (λ l. placed i l) values i v below ∙ ap (λ w. (i + 1, w) ∷ placed (i + 1) (drop (i + 1) values)) (sym is))
+module _ {A : Type 0} (has : A → Bool) {now next : List A} {e : A} (is : now ≡ e ∷ next) where
+  filter_is : (b : Bool) → has e ≡ b → filter has now ≡ cond b (e ∷ filter has next) (filter has next)
+  filter_is b so = ap (filter has) is ∙ ap (λ b. cond b (e ∷ filter has next) (filter has next)) so
 
-  pub none_placed : (values : List A) (i : ℕ) (rest : List Row) → length values ≤ i → AreLeft row_of P (placed i (drop i values)) rest → rest ≡ []
-  none_placed values i rest past = none_left row_of P (placed i (drop i values)) rest (ap (λ l. placed i l) (drop_all i values past))
+  pub filter_on : has e ≡ true → filter has now ≡ e ∷ filter has next
+  filter_on = filter_is true
 
-  -- where a value is left, so is a row
-  pub some_placed : (values : List A) (i : ℕ) (rest : List Row) → i < length values → length rest ≡ 0 → AreLeft row_of P (placed i (drop i values)) rest → IsTrue false
-  some_placed values i rest below none left = go (drop i values) (omega (arith, length-drop i values)) left.0
+  pub filter_past : has e ≡ false → filter has now ≡ filter has next
+  filter_past = filter_is false
+
+module _ {A : Type 0} (values : List A) (i : ℕ) where
+  pub placed_on : (v : A) → i < length values → v ≡ get_or values i v → placed i (drop i values) ≡ (i + 1, v) ∷ placed (i + 1) (drop (i + 1) values)
+  placed_on v below is = at_drop_more (λ l. placed i l) values i v below ∙ ap (λ w. (i + 1, w) ∷ placed (i + 1) (drop (i + 1) values)) (sym is)
+
+  pub placed_some : i < length values → (v : A) × (placed i (drop i values) ≡ (i + 1, v) ∷ placed (i + 1) (drop (i + 1) values))
+  placed_some below = go values below
     where
-      go : (l : List A) → 0 < length l → rest ≡ map row_of (placed i l) → IsTrue false
-      go [] some is = absurd (omega arith)
-      go (x ∷ l) some is = absurd (cc (sym (no_length rest none) ∙ is))
+      go : (xs : List A) → i < length xs → (v : A) × (placed i (drop i xs) ≡ (i + 1, v) ∷ placed (i + 1) (drop (i + 1) xs))
+      go [] below = absurd (omega arith)
+      go (x ∷ xs) below = (get_or (x ∷ xs) i x, at_drop_more (λ l. placed i l) (x ∷ xs) i x below)
+
+  pub placed_end : length values ≤ i → placed i (drop i values) ≡ []
+  placed_end past = ap (λ l. placed i l) (drop_all i values past)

@@ -1,7 +1,11 @@
 -- A row that reads as an entry, and what is found at the entry's key.
-use Rattle.std.proofs.Common.{◌≡◌, Bool, true, false, Option, Some, None, is_some, refl, sym, ap, ◌∙◌}
+use Rattle.std.proofs.Common.{◌≡◌, Bool, true, false, List, Option, Some, None, is_some, IsTrue, refl, sym, ap, ◌∙◌}
+use Rattle.std.proofs.lemmas.Bool.{both_ways}
+use Rattle.sqlite_value.specs.declared.value.ValueRef.{ValueRef}
 use Rattle.sqlite_value.specs.Order.{Row}
+use Rattle.sqlite.specs.Values.{bound}
 use Rattle.bsp_rows.proofs.MapLemmas.{same_Some}
+use Rattle.bsp_store_load.specs.Loading.{has_real}
 
 module _ {E : Type 0} (row_of : E → Row) (row : Row) (read : Option E) (e : E) (some : read ≡ Some e) where
   -- it does not read as nothing
@@ -12,9 +16,9 @@ module _ {E : Type 0} (row_of : E → Row) (row : Row) (read : Option E) (e : E)
     pub own_is : own ≡ e
     own_is = same_Some own e (sym is ∙ some)
 
-    -- and it is the row of what was read
-    pub own_row : row ≡ row_of e → row ≡ row_of own
-    own_row same = same ∙ ap row_of (sym own_is)
+    -- and its row is not found to be another
+    pub not_refused : row ≡ row_of e → (values : List ValueRef) → bound values ≡ row_of own → has_real (row_of e) ≡ false → (b : Bool) → b ≡ false → (row ≡ bound values → has_real row ≡ false → IsTrue b) → ⊥
+    not_refused same values texts plain b fails fine = both_ways b fails (fine (same ∙ ap row_of (sym own_is) ∙ sym texts) (ap has_real same ∙ plain))
 
 -- nothing is found
 pub found_none : {V : Type 0} (found : Option V) (b : Bool) → b ≡ is_some found → b ≡ false → found ≡ None

@@ -11,11 +11,6 @@ use Rattle.bsp_store_base.specs.Forms.{IsMemoEntry}
 use Rattle.bsp_rows.proofs.KeyOrders.{item_exact, item_total, memo_exact, memo_total}
 use Rattle.bsp_store_load.proofs.CloseLemmas.{of_entries}
 
--- both conditions, one after the other
-pub both_all : {A : Type 0} (P Q : A → Type 0) (xs : List A) → AllByRecursion P xs → AllByRecursion Q xs → AllByRecursion (λ x. P x × Q x) xs
-both_all P Q [] p q = tt
-both_all P Q (x ∷ xs) p q = ((p.0, q.0), both_all P Q xs p.1 q.1)
-
 pub items_right : (rows : Rows) → Sound rows → AllByRecursion (λ e. IsRight e.0 e.1) (entries rows.items)
 items_right rows sound = of_entries item_total item_exact (λ e. IsRight e.0 e.1) rows.items (λ k i at. (sound.items.each k i at).right)
 

@@ -1,9 +1,9 @@
 -- Rows have one content: the tallies to which some of them add, and nothing beside the rows.
-use Rattle.std.proofs.Common.{◌≡◌, Bool, Option, Some, None, refl, sym, ap, ◌∙◌}
+use Rattle.std.proofs.Common.{◌≡◌, Bool, Option, Some, None, refl, sym, ap, ◌∙◌, List, [], ◌∷◌, map}
 use Rattle.std.specs.Prelude.{unwrap_or}
 use Rattle.std.specs.FinMap.{FinMap, get, entries, entries_sorted, get-entries, get-from_entries, same_map, values}
 use Rattle.std.specs.FinMap.Entries.{find}
-use Rattle.bsp_maps.proofs.PickLemmas.{find_passing, wanted}
+use Rattle.bsp_maps.proofs.PickLemmas.{find_passing, wanted, sorted_filter}
 use Rattle.bsp_rows.specs.Tally.{Tally}
 use Rattle.bsp_rows.specs.Rows.{Rows}
 use Rattle.bsp_rows.specs.Tallies.{key_tally, tally_cmp, tally_of}
@@ -13,6 +13,16 @@ use Rattle.bsp_memory_rows.specs.Kept.{AreAddedUp, tally_at}
 use Rattle.bsp_memory_rows.specs.Lookups.{has_rows}
 use Rattle.bsp_store_base.specs.Content.{Content, content_with}
 use Rattle.bsp_store_load.specs.Contents.{IsContentOf, used, used_at, used_tallies}
+use Rattle.std.specs.BTreeMap.{BTreeMap}
+use Rattle.std.specs.List.{AllByRecursion, filter}
+use Rattle.std.specs.List.Sorted.{IsStrictlySortedBy}
+use Rattle.std.specs.Map.{keys_of}
+use Rattle.sqlite_value.specs.Order.{Row}
+use Rattle.bsp_maps.specs.Undo.{content}
+use Rattle.bsp_maps.specs.declared.logged.Logged.{Logged}
+use Rattle.bsp_maps.proofs.ContentLemmas.{of_content}
+use Rattle.bsp_maps.proofs.OrderLemmas.{in_order}
+use Rattle.bsp_store_load.proofs.PutLemmas.{strictly}
 
 abbrev adds : TallyKey → Tally → Bool
 adds k t = has_rows t
@@ -40,3 +50,19 @@ module _ (rows : Rows) where
   -- rows have one content
   pub one_content : (c d : Content) → IsContentOf rows c → IsContentOf rows d → c ≡ d
   one_content c d a b = a.same ∙ ap (content_with rows) (same_map tally_total tally_exact c.tallies d.tallies (λ k. a.tallies k ∙ sym (b.tallies k))) ∙ sym b.same
+
+-- ---- the tallies in memory that have a row
+
+-- a condition that asks nothing
+pub all_have : {A : Type 0} (xs : List A) → AllByRecursion (λ x. Unit {0}) xs
+all_have [] = tt
+all_have (x ∷ xs) = (tt, all_have xs)
+
+entries-used : (m : FinMap tally_cmp Tally) → entries (used_tallies m) ≡ filter (λ e. has_rows e.1) (entries m)
+entries-used m = in_order tally_total (filter (λ e. has_rows e.1) (entries m)) (strictly tally_cmp (filter (λ e. has_rows e.1) (entries m)) (sorted_filter tally_cmp tally_total (λ e. has_rows e.1) (entries m) (entries_sorted m)))
+
+pub used_are : (row_of : TallyKey × Tally → Row) (t : Logged TallyKey Tally) (m : BTreeMap TallyKey Tally) → m ≡ t.map → IsStrictlySortedBy tally_cmp (keys_of m.entries)
+    → map row_of (filter (λ e. has_rows e.1) m.entries) ≡ map row_of (entries (used_tallies (content tally_cmp t)))
+used_are row_of t m is up =
+    ap (λ es. map row_of (filter (λ e. has_rows e.1) es)) (of_content tally_total t m is up)
+    ∙ ap (map row_of) (sym (entries-used (content tally_cmp t)))

@@ -1,11 +1,11 @@
 -- Items that are put into memory as their taxes are taken out of those that are left.
-use Rattle.std.proofs.Common.{◌≡◌, ◌↔◌, ◌∷◌, length, Bool, true, false, cond, List, [], map, Option, Some, None, IfSome, Result, Ok, Err, IfOk, refl, sym, ap, ◌∙◌}
+use Rattle.std.proofs.Common.{◌≡◌, ◌↔◌, ◌∷◌, length, Bool, true, false, cond, List, [], map, Option, Some, None, Result, Ok, Err, IfOk, refl, sym, ap, ◌∙◌}
 use Rattle.std.specs.Prelude.{option_map}
 use Rattle.std.specs.Cmp.{Equal-is, tied_itself}
 use Rattle.std.specs.FinMap.{FinMap, empty, entries, find, from_entries, get, get-empty, get-from_entries, get-insert, get-remove, get_tied, insert, remove, same_map}
 use Rattle.std.specs.Option.{option_xor}
 use Rattle.std.specs.Ordering.{eq_by_cmp, is_eq}
-use Rattle.std.proofs.lemmas.Option.{none-some}
+use Rattle.std.proofs.lemmas.Option.{IfSome_then, none-some}
 use Rattle.sqlite_value.specs.Order.{Row}
 use Rattle.sqlite_trees.specs.Tree.{Trees}
 use Rattle.bsp_maps.proofs.OrderLemmas.{no_length}
@@ -21,8 +21,7 @@ use Rattle.bsp_store_base.specs.Seconds.{ticket_cmp}
 use Rattle.bsp_store_base.specs.Taxes.{tax_with}
 use Rattle.bsp_store_base.specs.declared.taxes.ItemTax.{ItemTax}
 use Rattle.bsp_store_load.specs.Beside.{IsAwaited, IsRelatedItem, IsStoredItem, LacksItem, Taxed, kept_tax, taxes_of}
-use Rattle.bsp_store_load.specs.Entries.{MayAll, after_all}
-use Rattle.bsp_store_load.specs.Loading.{IsLoaded, LeavesRow}
+use Rattle.bsp_store_load.specs.Loading.{IsLoaded, LeavesRow, MayAll, after_all}
 use Rattle.bsp_store_load.proofs.BesideLemmas.{get-taxes_of}
 use Rattle.bsp_store_load.proofs.Loaders.{Loads}
 use Rattle.bsp_store_load.proofs.SaleLoaders.{items_loader}
@@ -133,10 +132,6 @@ rows_after : (es : List (ItemKey × Item)) (w : Taxed) → (after_all put_taxed 
 rows_after [] w = refl
 rows_after (e ∷ es) w = rows_after es (put_taxed e w)
 
-if_some : {A : Type 0} (P Q : A → Type 0) (o : Option A) → ((x : A) → P x → Q x) → IfSome o P → IfSome o Q
-if_some P Q None so it = tt
-if_some P Q (Some x) so it = so x it
-
 module _ (taxes : FinMap item_cmp ItemTax) (seconds : FinMap ticket_cmp ReportedDocument) where
   abbrev MayTaxed : ItemKey × Item → Taxed → Type 0
   MayTaxed e w = IsRelatedItem seconds e × LacksItem e w
@@ -166,8 +161,7 @@ module _ (taxes : FinMap item_cmp ItemTax) (seconds : FinMap ticket_cmp Reported
       are = loaded.are;
       put = loaded.put;
       made = (loaded.made.0, ap (λ (w : Taxed). w.0) loaded.made.1 ∙ rows_after loaded.made.0 old);
-      refused = if_some (λ r. (e : ItemKey × Item) → MayTaxed e new → r ≡ item_row e → ⊥) (λ r. (e : ItemKey × Item) → MayPlain e new.0 → r ≡ item_row e → ⊥) left
-          (λ r none e may is. none e (may_one e new still may) is) loaded.refused;
+      refused = IfSome_then left loaded.refused (λ r none e may is. none e (may_one e new still may) is);
       entries = λ es may is.
           let it = loaded.entries es (may_all es old kept may) is in
           (it.0, ap (λ (w : Taxed). w.0) it.1 ∙ rows_after es old);
@@ -179,7 +173,3 @@ module _ {X E : Type 0} (P Q R Z : X → Type 0) where
   pub if_all : (r : Result X E) → IfOk r P → IfOk r Q → IfOk r R → ((x : X) → P x → Q x → R x → Z x) → IfOk r Z
   if_all (Ok x) p q r so = so x p q r
   if_all (Err e) p q r so = tt
-
-pub if_ok : {X E : Type 0} (P Q : X → Type 0) (r : Result X E) → IfOk r P → ((x : X) → P x → Q x) → IfOk r Q
-if_ok P Q (Ok x) p so = so x p
-if_ok P Q (Err e) p so = tt

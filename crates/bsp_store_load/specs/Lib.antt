@@ -1,5 +1,3 @@
-pub mod Entries
-pub mod Gathered
 pub mod Loading
 pub mod Beside
 pub mod Adding

@@ -1,11 +1,33 @@
--- Rows of a table that are put into memory one at a time.
-use Rattle.std.specs.Prelude.{◌≡◌, ◌++◌, List, [], ◌∷◌, map, Option, Some, None, IfSome, IsPermutation}
+-- Rows of a table that are put into memory one at a time, each as an entry.
+use Rattle.std.specs.Prelude.{◌≡◌, ◌++◌, Bool, true, false, List, [], ◌∷◌, map, Option, Some, None, IfSome, IsPermutation}
+use Rattle.std.specs.List.{list_any}
+use Rattle.sqlite_value.specs.declared.value.Value.{Value}
+use Rattle.sqlite_value.specs.declared.value.Value.TheVariants.{Null, Int, Real, Text, Blob}
 use Rattle.sqlite_value.specs.Order.{Row}
 use Rattle.sqlite_trees.specs.Tree.{Trees}
 use Rattle.bsp_store_base.specs.Content.{Content, width_of}
 use Rattle.bsp_store_base.specs.Kept.{Part, columns_of}
 use Rattle.bsp_store_base.specs.Shows.{AreAllOf}
-use Rattle.bsp_store_load.specs.Entries.{MayAll, after_all}
+
+abbrev pub is_real : Value → Bool
+is_real Null = false
+is_real (Int n) = false
+is_real (Real x) = true
+is_real (Text t) = false
+is_real (Blob b) = false
+
+abbrev pub has_real : Row → Bool
+has_real row = list_any is_real row
+
+module _ {E W : Type 0} (step : E → W → W) where
+  abbrev pub after_all : List E → W → W
+  after_all [] rows = rows
+  after_all (e ∷ es) rows = after_all es (step e rows)
+
+  -- each may be put into the rows that those before it made
+  abbrev pub MayAll : (E → W → Type 0) → List E → W → Type 0
+  MayAll may [] rows = Unit {0}
+  MayAll may (e ∷ es) rows = may e rows × MayAll may es (step e rows)
 
 -- the trees have the rows of a content in a table, in some order
 abbrev pub HasRows : Part Content → Content → Trees → Type 0

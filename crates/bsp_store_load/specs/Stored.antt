@@ -1,8 +1,9 @@
 -- The rows of the plan's tables, and what tables in memory are as a commit leaves them.
-use Rattle.std.specs.Prelude.{◌≡◌, ◌<◌, ◌^◌, ℕ, Bool, true, false, List, length, map, IfSome, IsOk, IsTrue, None, Option, Some, Result, Ok, Err}
-use Rattle.std.specs.FinMap.{FinMap, entries}
+use Rattle.std.specs.Prelude.{◌≡◌, ◌<◌, ◌^◌, ℕ, List, [], ◌∷◌, length, map, IfSome, IsOk, IsTrue, Some, None, Option, option_map}
+use Rattle.std.specs.FinMap.{FinMap, entries, insert}
 use Rattle.std.specs.List.{AllByRecursion}
 use Rattle.std.specs.Ordering.{nat_cmp}
+use Rattle.std.specs.declared.cmp.Ordering.{Ordering}
 use Rattle.bsp_rows.specs.CivilDay.{is_day}
 use Rattle.bsp_rows.specs.History.Request.{Close}
 use Rattle.bsp_rows.specs.Period.{Period}
@@ -15,6 +16,7 @@ use Rattle.bsp_store_base.specs.Columns.{airline_row, commission_tax_row, meta_r
 use Rattle.bsp_store_base.specs.Forms.{AreTerms, IsAirlineEntry, IsCommissionTax, IsPeriod, IsRate}
 use Rattle.bsp_memory_rows.specs.declared.tables.Tables.{Tables}
 use Rattle.bsp_memory_rows.specs.Tables.{IsDerived, WasDerived, committed_rows, rows_of}
+use Rattle.bsp_store_load.specs.Formed.{IsRegisteredAirline, OnEach}
 use Rattle.bsp_store_load.specs.declared.plan_rows.PlanRows.{PlanRows}
 
 -- the tables as a commit leaves them
@@ -22,12 +24,6 @@ pub record AreCommitted (tables : Tables) : Type 0 where
   pub committed : committed_rows tables ≡ rows_of tables
   pub derived : IsDerived tables
   pub was_derived : WasDerived tables
-
--- a value that was made, where it was made whole
-abbrev pub given_whole : {T E : Type 0} → Result Bool E → T → Result (Option T) E
-given_whole (Ok true) x = Ok (Some x)
-given_whole (Ok false) x = Ok None
-given_whole (Err e) x = Err e
 
 -- ---- the plan
 
@@ -58,6 +54,25 @@ pub record IsListedAirline (e : ℕ × AirlineEntry) : Type 0 where
   pub formed : IsAirlineEntry e
   pub some : entry_of e.1.place e.1.token ≡ Some e.1
 
+-- ---- the plan and the tokens of airlines, put into tables
+
+-- the plan alone is changed, and what follows from the rows still does
+pub record ChangesPlan (old new : Tables) : Type 0 where
+  pub derived : IsDerived old → IsDerived new
+  pub others : rows_of new ≡ record (rows_of old) { published = (rows_of new).published }
+
+-- the tokens of airlines alone are changed, to those of registered airlines
+pub record ChangesTokens (old new : Tables) : Type 0 where
+  pub derived : IsDerived old → IsDerived new
+  pub registered : OnEach IsRegisteredAirline (rows_of old).airlines → OnEach IsRegisteredAirline (rows_of new).airlines
+  pub others : rows_of new ≡ record (rows_of old) { airlines = (rows_of new).airlines }
+
+-- both are
+pub record PutsPlan (old new : Tables) : Type 0 where
+  pub derived : IsDerived old → IsDerived new
+  pub registered : OnEach IsRegisteredAirline (rows_of old).airlines → OnEach IsRegisteredAirline (rows_of new).airlines
+  pub others : rows_of new ≡ record (rows_of old) { published = (rows_of new).published; airlines = (rows_of new).airlines }
+
 -- ---- periods that are closed one after another
 
 abbrev pub closing : ℕ × Period → Rows → Rows
@@ -65,3 +80,32 @@ closing e = after_request (Close e.1.code)
 
 abbrev pub MayClose : (Period → Type 0) → ℕ × Period → Rows → Type 0
 MayClose P e rows = P e.1 × IsOk (request_answer (Close e.1.code) rows)
+
+-- ---- what rows read as
+
+-- each row is that of its value, and there are as many of each
+abbrev pub AreReadAs : {Row V : Type 0} → (V → Row → Type 0) → List Row → List V → Type 0
+AreReadAs is_in [] [] = Unit {0}
+AreReadAs is_in [] (v ∷ values) = ⊥
+AreReadAs is_in (row ∷ rows) [] = ⊥
+AreReadAs is_in (row ∷ rows) (v ∷ values) = is_in v row × AreReadAs is_in rows values
+
+-- ---- maps of the pairs that the elements of a list give
+
+module _ {K V : Type 0} {R : K → K → Ordering} where
+  -- with this value at this key, if there is one
+  abbrev pub with_pair : Option (K × V) → FinMap R V → FinMap R V
+  with_pair None m = m
+  with_pair (Some e) m = insert m e.0 e.1
+
+  -- with the pair of each element, one after another
+  abbrev pub gathered : {A : Type 0} → (A → Option (K × V)) → List A → FinMap R V → FinMap R V
+  gathered f [] m = m
+  gathered f (x ∷ xs) m = gathered f xs (with_pair (f x) m)
+
+-- an airline by its place, and its token by the airline
+abbrev pub placed_code : ℕ × AirlineEntry → Option (ℕ × ℕ)
+placed_code e = option_map (λ place. (place, e.0)) e.1.place
+
+abbrev pub code_token : ℕ × AirlineEntry → Option (ℕ × List ℕ)
+code_token e = option_map (λ token. (e.0, token)) e.1.token

@@ -1,20 +1,22 @@
 //! The airlines of tables in memory, against the rows of a store.
 
-ghost use Rattle.std.specs.Prelude.{◌≡◌, map, IfOk, IsTrue, OnOk};
+ghost use Rattle.std.specs.Prelude.{◌≡◌, map, IfOk, IsTrue, OnOk, true};
 ghost use Rattle.std.specs.FinMap.{entries, from_entries, insert};
 ghost use Rattle.std.specs.List.{AllByRecursion};
 ghost use Rattle.std.specs.Ordering.{nat_cmp};
 ghost use Rattle.bsp_memory_rows.specs.Tables.{rows_of};
 ghost use Rattle.bsp_store_base.specs.Airlines.{HasStoredPlace, airline_entries, published_at, registered, with_published};
 ghost use Rattle.bsp_store_base.specs.Columns.{airline_row, placed};
+ghost use Rattle.bsp_store_load.specs.Stored.{IsListedAirline};
 
 use crate::equal::is_row;
 use crate::listed::{RowOf, are_rows_of};
+use crate::plan_rows::ReadsAs;
 use bsp_maps::Rule;
 use bsp_memory_rows::Tables;
 use bsp_rows::{AirlineCode, Token};
 use bsp_store_base::AirlineEntry;
-use bsp_store_rows::AirlineRow;
+use bsp_store_rows::{AirlineRow, read_airline};
 use sqlite::Row;
 use std::alloc::{AllocError, Global};
 use std::collections::BTreeMap;
@@ -84,12 +86,9 @@ fn airlines_of(
 
 /// The rows of airlines.
 #[derive(Clone, Copy)]
-struct Airlines;
+pub(crate) struct Airlines;
 
 impl RowOf<AirlineCode, AirlineEntry> for Airlines {
-    ghost use Rattle.bsp_store_base.specs.Airlines.{HasStoredPlace};
-    ghost use Rattle.bsp_store_base.specs.Columns.{airline_row};
-
     ghost row_of = { airline_row };
 
     ghost has_row = { λ e. HasStoredPlace e.1 };
@@ -99,13 +98,19 @@ impl RowOf<AirlineCode, AirlineEntry> for Airlines {
     }
 }
 
+impl ReadsAs<(AirlineCode, AirlineEntry)> for Airlines {
+    ghost is_in = { λ e row. IsListedAirline e × (row ≡ airline_row e) };
+
+    fn read(&self, row: &Row) -> Option<(AirlineCode, AirlineEntry)> {
+        read_airline(row)
+    }
+}
+
 /// Each airline has a row.
 #[derive(Clone, Copy)]
 struct EachAirline;
 
 impl Rule<AirlineCode, AirlineEntry> for EachAirline {
-    ghost use Rattle.std.specs.Prelude.{true};
-
     ghost holds = { λ rule code airline. true };
 
     fn holds(&self, _code: &AirlineCode, _airline: &AirlineEntry) -> bool {

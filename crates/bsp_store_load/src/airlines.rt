@@ -1,48 +1,21 @@
 //! The airlines of rows: those that are published, in the order of their places, and the tokens of those that are
 //! registered.
 
-ghost use Rattle.std.specs.Prelude.{◌≡◌, ℕ, List, map, option_map, IfOk, IsSomeAnd, OnOk};
+ghost use Rattle.std.specs.Prelude.{◌≡◌, ℕ, List, map, option_map, IfOk, OnOk};
 ghost use Rattle.std.specs.FinMap.{FinMap, empty, entries, from_entries};
-ghost use Rattle.std.specs.List.{AllByRecursion};
 ghost use Rattle.std.specs.Ordering.{nat_cmp};
 ghost use Rattle.bsp_rows.specs.Requests.{AreDistinct, same_airline};
 ghost use Rattle.bsp_memory_rows.specs.Tables.{IsDerived, rows_of};
-ghost use Rattle.bsp_store_base.specs.declared.airlines.AirlineEntry.{AirlineEntry as Airline};
 ghost use Rattle.bsp_store_base.specs.Airlines.{airline_entries};
-ghost use Rattle.bsp_store_base.specs.Columns.{airline_row};
 ghost use Rattle.bsp_store_load.specs.Formed.{IsRegisteredAirline, OnEach};
-ghost use Rattle.bsp_store_load.specs.Gathered.{with_pair};
-ghost use Rattle.bsp_store_load.specs.Stored.{IsListedAirline};
+ghost use Rattle.bsp_store_load.specs.Stored.{ChangesTokens, with_pair};
 
 use crate::formed::formed_airline;
 use bsp_memory_rows::{NoRoom, Tables};
 use bsp_rows::{AirlineCode, Token};
 use bsp_store_base::AirlineEntry;
-use bsp_store_rows::read_airline;
-use sqlite::Row;
 use std::alloc::{AllocError, Global};
 use std::collections::BTreeMap;
-
-/// The airlines of rows under their codes; none where a row reads as none.
-pub(crate) fn airlines_in(
-    alloc: Global,
-    rows: &[Row],
-) -> Result<Option<Vec<(AirlineCode, AirlineEntry)>>, AllocError>
-    ensures { IfOk result (λ found. (values : List (ℕ × Airline)) → AllByRecursion IsListedAirline values → rows.now ≡ map airline_row values → IsSomeAnd found (λ v. v.items ≡ values)) }
-{
-    let mut found = Vec::new(alloc);
-    for row in rows {
-        let Some(airline) = read_airline(row) else {
-            return Ok(None);
-        };
-        let entry = AirlineEntry {
-            place: airline.1.place,
-            token: airline.1.token,
-        };
-        found.push((airline.0, entry))?;
-    }
-    Ok(Some(found))
-}
 
 /// Notes an airline at its place, if it has one.
 fn note_place(
@@ -101,9 +74,7 @@ pub(crate) fn put_tokens(
     tables: &mut Tables,
     airlines: &[(AirlineCode, AirlineEntry)],
 ) -> Result<(), NoRoom>
-    ensures derived { OnOk result (IsDerived tables.old → IsDerived tables.new) }
-    ensures registered { OnOk result (OnEach IsRegisteredAirline (rows_of tables.old).airlines → OnEach IsRegisteredAirline (rows_of tables.new).airlines) }
-    ensures others { OnOk result (rows_of tables.new ≡ record (rows_of tables.old) { airlines = (rows_of tables.new).airlines }) }
+    ensures changes { OnOk result (ChangesTokens tables.old tables.new) }
     ensures tokens { OnOk result ((codes : List ℕ) (tokens : FinMap nat_cmp (List ℕ)) → (rows_of tables.old).airlines ≡ empty → airlines.now ≡ entries (airline_entries codes tokens) → (rows_of tables.new).airlines ≡ tokens) }
 {
     for airline in airlines {

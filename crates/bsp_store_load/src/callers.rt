@@ -1,5 +1,16 @@
 //! The tables of agents and of ranges: each row, put into memory.
 
+ghost use Rattle.std.specs.Prelude.{◌≡◌, map, None};
+ghost use Rattle.std.specs.FinMap.{entries, get};
+ghost use Rattle.bsp_rows.specs.Rows.{Rows, range_of};
+ghost use Rattle.bsp_rows.specs.Writes.{with_agent_token, with_range};
+ghost use Rattle.bsp_memory_rows.specs.Tables.{rows_of};
+ghost use Rattle.bsp_store_base.specs.Columns.{agent_row, stock_row};
+ghost use Rattle.bsp_store_base.specs.Content.{agent_part, stock_part};
+ghost use Rattle.bsp_store_base.specs.Forms.{IsAgentEntry, IsRangeEntry};
+ghost use Rattle.bsp_store_load.specs.Adding.{agent_added, range_added};
+ghost use Rattle.bsp_store_load.specs.Formed.{AreWhole};
+
 use crate::equal::is_row;
 use crate::formed::{formed_agent, formed_range};
 use crate::load::StoredTable;
@@ -16,17 +27,6 @@ use sqlite::Row;
 pub struct Agents;
 
 impl StoredTable<AgentCode, Token, Tables> for Agents {
-    ghost use Rattle.std.specs.Prelude.{◌≡◌, map, None};
-    ghost use Rattle.std.specs.FinMap.{entries, get};
-    ghost use Rattle.bsp_rows.specs.Rows.{Rows};
-    ghost use Rattle.bsp_rows.specs.Writes.{with_agent_token};
-    ghost use Rattle.bsp_memory_rows.specs.Tables.{rows_of};
-    ghost use Rattle.bsp_store_base.specs.Columns.{agent_row};
-    ghost use Rattle.bsp_store_base.specs.Content.{agent_part};
-    ghost use Rattle.bsp_store_base.specs.Forms.{IsAgentEntry};
-    ghost use Rattle.bsp_store_load.specs.Adding.{agent_added};
-    ghost use Rattle.bsp_store_load.specs.Formed.{AreWhole};
-
     ghost part = { agent_part };
 
     ghost Whole = { Rows };
@@ -73,17 +73,6 @@ impl StoredTable<AgentCode, Token, Tables> for Agents {
 pub struct Ranges;
 
 impl StoredTable<RangeKey, DocNumber, Tables> for Ranges {
-    ghost use Rattle.std.specs.Prelude.{◌≡◌, map, None};
-    ghost use Rattle.std.specs.FinMap.{entries, get};
-    ghost use Rattle.bsp_rows.specs.Rows.{Rows, range_of};
-    ghost use Rattle.bsp_rows.specs.Writes.{with_range};
-    ghost use Rattle.bsp_memory_rows.specs.Tables.{rows_of};
-    ghost use Rattle.bsp_store_base.specs.Columns.{stock_row};
-    ghost use Rattle.bsp_store_base.specs.Content.{stock_part};
-    ghost use Rattle.bsp_store_base.specs.Forms.{IsRangeEntry};
-    ghost use Rattle.bsp_store_load.specs.Adding.{range_added};
-    ghost use Rattle.bsp_store_load.specs.Formed.{AreWhole};
-
     ghost part = { stock_part };
 
     ghost Whole = { Rows };

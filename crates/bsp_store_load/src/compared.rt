@@ -6,15 +6,15 @@ ghost use Rattle.std.specs.Ordering.{nat_cmp};
 ghost use Rattle.bsp_rows.specs.Published.{Published, opening};
 ghost use Rattle.bsp_rows.specs.SoundPlan.{IsSoundPlan};
 ghost use Rattle.bsp_rows.specs.Rows.{Rows, no_rows};
-ghost use Rattle.bsp_memory_rows.specs.Tables.{IsDerived, rows_of};
-ghost use Rattle.bsp_store_load.specs.Formed.{AreWhole, IsRegisteredAirline, OnEach};
-ghost use Rattle.bsp_store_load.specs.Stored.{AreRowsOfPlan, IsFormedPlan, given_whole};
+ghost use Rattle.bsp_memory_rows.specs.Tables.{rows_of};
+ghost use Rattle.bsp_store_load.specs.Formed.{AreWhole};
+ghost use Rattle.bsp_store_load.specs.Stored.{AreRowsOfPlan, IsFormedPlan, PutsPlan};
 
-use crate::airline_map::are_airlines;
-use crate::airlines::{airlines_in, put_tokens};
+use crate::airline_map::{Airlines, are_airlines};
+use crate::airlines::put_tokens;
 use crate::formed::formed_plan;
-use crate::plan::{are_commission_taxes, are_meta, are_periods, are_rates, are_terms};
-use crate::plan_rows::PlanRows;
+use crate::plan::{CommissionTaxes, Periods, Rates, are_meta, are_placed, are_terms};
+use crate::plan_rows::{PlanRows, read_all};
 use crate::published::put_plan;
 use bsp_memory_rows::{NoRoom, Tables};
 use std::alloc::{AllocError, Global};
@@ -30,22 +30,24 @@ fn are_rows_of_plan(alloc: Global, rows: &PlanRows, tables: &Tables) -> Result<b
         airlines
             && are_meta(&rows.meta, plan)
             && are_terms(&rows.terms, plan)
-            && are_rates(&rows.rates, plan)
-            && are_periods(&rows.periods, plan)
-            && are_commission_taxes(&rows.commission_taxes, plan),
+            && are_placed(&Rates, &rows.rates, plan.rates())
+            && are_placed(&Periods, &rows.periods, plan.periods())
+            && are_placed(
+                &CommissionTaxes,
+                &rows.commission_taxes,
+                plan.commission_taxes(),
+            ),
     )
 }
 
 /// Puts the plan that rows say, and the tokens of airlines, into tables that have none, and answers false where the rows
 /// are those of no plan.
 fn put_rows(alloc: Global, tables: &mut Tables, rows: &PlanRows) -> Result<bool, NoRoom>
-    ensures derived { OnOk result (IsDerived tables.old → IsDerived tables.new) }
-    ensures registered { OnOk result (OnEach IsRegisteredAirline (rows_of tables.old).airlines → OnEach IsRegisteredAirline (rows_of tables.new).airlines) }
-    ensures others { OnOk result (rows_of tables.new ≡ record (rows_of tables.old) { published = (rows_of tables.new).published; airlines = (rows_of tables.new).airlines }) }
+    ensures puts { OnOk result (PutsPlan tables.old tables.new) }
     ensures plan { IfOk result (λ done. (p : Published) (tokens : FinMap nat_cmp (List ℕ)) → IsSoundPlan p → IsFormedPlan p tokens → AreRowsOfPlan p tokens rows.now → (rows_of tables.old).published ≡ opening → (rows_of tables.old).airlines ≡ empty
         → (done ≡ true) × (rows_of tables.new ≡ record (rows_of tables.old) { published = p; airlines = tokens })) }
 {
-    let Some(airlines) = airlines_in(alloc, &rows.airlines)? else {
+    let Some(airlines) = read_all(alloc, &Airlines, &rows.airlines)? else {
         return Ok(false);
     };
     if !put_plan(alloc, tables, rows, &airlines)? {
@@ -58,9 +60,7 @@ fn put_rows(alloc: Global, tables: &mut Tables, rows: &PlanRows) -> Result<bool,
 /// Makes the plan that rows say, with the tokens of airlines, in tables that have none, and answers false where they are
 /// the rows of no plan.
 fn put_whole_plan(alloc: Global, tables: &mut Tables, rows: &PlanRows) -> Result<bool, NoRoom>
-    ensures derived { OnOk result (IsDerived tables.old → IsDerived tables.new) }
-    ensures registered { OnOk result (OnEach IsRegisteredAirline (rows_of tables.old).airlines → OnEach IsRegisteredAirline (rows_of tables.new).airlines) }
-    ensures others { OnOk result (rows_of tables.new ≡ record (rows_of tables.old) { published = (rows_of tables.new).published; airlines = (rows_of tables.new).airlines }) }
+    ensures puts { OnOk result (PutsPlan tables.old tables.new) }
     ensures rows { IfOk result (λ done. IsTrue done → AreRowsOfPlan (rows_of tables.new).published (rows_of tables.new).airlines rows.now) }
     ensures plan { IfOk result (λ done. (p : Published) (tokens : FinMap nat_cmp (List ℕ)) → IsSoundPlan p → IsFormedPlan p tokens → AreRowsOfPlan p tokens rows.now → (rows_of tables.old).published ≡ opening → (rows_of tables.old).airlines ≡ empty
         → (done ≡ true) × (rows_of tables.new ≡ record (rows_of tables.old) { published = p; airlines = tokens })) }
@@ -69,17 +69,6 @@ fn put_whole_plan(alloc: Global, tables: &mut Tables, rows: &PlanRows) -> Result
         return Ok(false);
     }
     Ok(are_rows_of_plan(alloc, rows, tables)?)
-}
-
-/// A value that was made, where it was made whole.
-fn if_whole<T: Drop>(done: Result<bool, NoRoom>, value: T) -> Result<Option<T>, NoRoom>
-    ensures { result ≡ given_whole done value }
-{
-    match done {
-        Ok(true) => Ok(Some(value)),
-        Ok(false) => Ok(None),
-        Err(fault) => Err(fault),
-    }
 }
 
 /// Tables in memory with the plan and the tokens of airlines whose rows these are, and nothing else; none where they are
@@ -96,7 +85,9 @@ pub fn plan_tables(alloc: Global, rows: &PlanRows) -> Result<Option<Tables>, NoR
         → IsSomeAnd found (λ tables. rows_of tables ≡ record no_rows { published = p; airlines = tokens })) }
 {
     let mut tables = Tables::new(alloc);
-    let done = put_whole_plan(alloc, &mut tables, rows);
+    if !put_whole_plan(alloc, &mut tables, rows)? {
+        return Ok(None);
+    }
     formed_plan(tables.plan());
-    if_whole(done, tables)
+    Ok(Some(tables))
 }

@@ -4,7 +4,7 @@ ghost use Rattle.std.specs.Prelude.{◌≡◌, ◌<◌, ◌∷◌, [], IsTrue, f
 ghost use Rattle.sqlite_value.specs.Order.{column};
 ghost use Rattle.sqlite_value.specs.Value.{owned};
 ghost use Rattle.sqlite.specs.Values.{bound, bound_value};
-ghost use Rattle.bsp_store_load.specs.Entries.{has_real, is_real};
+ghost use Rattle.bsp_store_load.specs.Loading.{has_real, is_real};
 
 use sqlite::Row;
 use sqlite_value::value::ValueRef;

@@ -5,7 +5,7 @@ ghost use Rattle.std.specs.Prelude.{◌≡◌, ◌<◌, ◌^◌, IsTrue, length}
 ghost use Rattle.std.specs.List.{AllByRecursion};
 ghost use Rattle.bsp_rows.specs.CivilDay.{is_day};
 ghost use Rattle.bsp_rows.specs.Stored.{InEach, IsStored, IsStoredTax};
-ghost use Rattle.bsp_store_base.specs.Forms.{AreTerms, IsAgentEntry, IsRangeEntry};
+ghost use Rattle.bsp_store_base.specs.Forms.{AreTerms, IsAgentEntry, IsRangeEntry, IsAirline, IsRate, IsPeriod, IsCommissionTax};
 ghost use Rattle.bsp_store_load.specs.Formed.{IsFormedItem, IsFormedMemo, IsFormedPublished, IsRegisteredAirline};
 
 use bsp_rows::{
@@ -81,59 +81,43 @@ fn formed_terms(terms: Terms)
     let _letters = terms.currency.letters();
 }
 
-/// Values of one type, of each of which something is known.
-trait FormedValue<V> {
-    ghost is_formed: { V → Type 0 };
+/// A value of whose type something is known.
+trait Formed {
+    ghost is_formed: { Self → Type 0 };
 
-    fn see(&self, value: V)
-        ensures { is_formed value };
+    fn see(self)
+        ensures { is_formed self };
 }
 
-struct Airlines;
-
-impl FormedValue<AirlineCode> for Airlines {
-    ghost use Rattle.bsp_store_base.specs.Forms.{IsAirline};
-
+impl Formed for AirlineCode {
     ghost is_formed = { IsAirline };
 
-    fn see(&self, _airline: AirlineCode) {}
+    fn see(self) {}
 }
 
-struct Rates;
-
-impl FormedValue<Rate> for Rates {
-    ghost use Rattle.bsp_store_base.specs.Forms.{IsRate};
-
+impl Formed for Rate {
     ghost is_formed = { IsRate };
 
-    fn see(&self, _rate: Rate) {}
+    fn see(self) {}
 }
 
-struct Periods;
-
-impl FormedValue<Period> for Periods {
-    ghost use Rattle.bsp_store_base.specs.Forms.{IsPeriod};
-
+impl Formed for Period {
     ghost is_formed = { IsPeriod };
 
-    fn see(&self, _period: Period) {}
+    fn see(self) {}
 }
 
-struct CommissionTaxes;
-
-impl FormedValue<CommissionTax> for CommissionTaxes {
-    ghost use Rattle.bsp_store_base.specs.Forms.{IsCommissionTax};
-
+impl Formed for CommissionTax {
     ghost is_formed = { IsCommissionTax };
 
-    fn see(&self, _tax: CommissionTax) {}
+    fn see(self) {}
 }
 
-fn all_formed<V: Copy + Drop, F: FormedValue<V>>(form: &F, values: &[V])
-    ensures { AllByRecursion F.is_formed values.now }
+fn all_formed<V: Copy + Drop + Formed>(values: &[V])
+    ensures { AllByRecursion V.is_formed values.now }
 {
     for at in 0..values.len() {
-        form.see(values[at]);
+        values[at].see();
     }
 }
 
@@ -155,8 +139,8 @@ pub fn formed_plan(plan: &Plan)
     if let Some(terms) = plan.terms() {
         formed_terms(terms);
     }
-    all_formed(&Airlines, plan.airlines());
-    all_formed(&Rates, plan.rates());
-    all_formed(&Periods, plan.periods());
-    all_formed(&CommissionTaxes, plan.commission_taxes());
+    all_formed(plan.airlines());
+    all_formed(plan.rates());
+    all_formed(plan.periods());
+    all_formed(plan.commission_taxes());
 }

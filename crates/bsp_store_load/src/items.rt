@@ -1,8 +1,8 @@
 //! The table of items: each row, put into memory with what other tables keep of its item. The tax of an item is then taken
 //! out of those that are left, so that the taxes of items in memory take no memory twice.
 
-ghost use Rattle.std.specs.Prelude.{◌≡◌, ◌↔◌, false, IfOk, IfSome, IsTrue, OnOk, Some};
-ghost use Rattle.std.specs.FinMap.{from_entries, get, remove};
+ghost use Rattle.std.specs.Prelude.{◌≡◌, ◌↔◌, false, IfOk, IfSome, IsTrue, OnOk, Some, map};
+ghost use Rattle.std.specs.FinMap.{from_entries, get, remove, entries};
 ghost use Rattle.bsp_rows.specs.Item.{Item as ItemEntry};
 ghost use Rattle.bsp_rows.specs.Rows.{item_cmp};
 ghost use Rattle.bsp_rows.specs.Writes.{with_item};
@@ -10,8 +10,10 @@ ghost use Rattle.bsp_rows.specs.declared.keys.ItemKey.{ItemKey as KeyEntry};
 ghost use Rattle.bsp_memory_rows.specs.Tables.{rows_of};
 ghost use Rattle.bsp_store_base.specs.Columns.{item_row};
 ghost use Rattle.bsp_store_base.specs.Taxes.{tax_with};
-ghost use Rattle.bsp_store_load.specs.Beside.{IsAwaited, IsKeyed, IsStoredItem, second_at};
+ghost use Rattle.bsp_store_load.specs.Beside.{IsAwaited, IsKeyed, IsStoredItem, second_at, IsRelatedItem, LacksItem, Taxed, kept_tax};
 ghost use Rattle.bsp_store_load.specs.Formed.{AreWhole};
+ghost use Rattle.bsp_store_base.specs.Content.{item_part};
+ghost use Rattle.bsp_store_load.specs.Adding.{taxed_added};
 
 use crate::equal::is_row;
 use crate::formed::formed_item;
@@ -93,23 +95,13 @@ impl StoredItems<'_> {
         ensures entry { (e : KeyEntry × ItemEntry) → IsStoredItem (from_entries taxes.now.entries) (from_entries self.now.seconds.now.entries) e → row.now ≡ item_row e → result ≡ Some e }
     {
         let key = read_item_key(row)?;
-        let tax = taxes.get(&key).copied()?;
+        let tax = tax_at(taxes, &key)?;
         let item = read_item(row, &key, tax, self.second_at(&key))?;
         Some((ItemKey::of(&item)?, item))
     }
 }
 
 impl<'a> StoredTable<ItemKey, Item, TaxedTables> for StoredItems<'a> {
-    ghost use Rattle.std.specs.Prelude.{◌≡◌, map};
-    ghost use Rattle.std.specs.FinMap.{entries, from_entries};
-    ghost use Rattle.bsp_rows.specs.Writes.{with_item};
-    ghost use Rattle.bsp_memory_rows.specs.Tables.{rows_of};
-    ghost use Rattle.bsp_store_base.specs.Columns.{item_row};
-    ghost use Rattle.bsp_store_base.specs.Content.{item_part};
-    ghost use Rattle.bsp_store_load.specs.Adding.{taxed_added};
-    ghost use Rattle.bsp_store_load.specs.Beside.{IsRelatedItem, LacksItem, Taxed, kept_tax};
-    ghost use Rattle.bsp_store_load.specs.Formed.{AreWhole};
-
     ghost part = { item_part };
 
     ghost Whole = { Taxed };

@@ -4,6 +4,7 @@ ghost use Rattle.std.specs.Prelude.{◌≡◌, map, IsTrue};
 ghost use Rattle.std.specs.BTreeMap.{IsOrdered};
 ghost use Rattle.std.specs.List.{AllByRecursion, filter};
 ghost use Rattle.bsp_store_base.specs.Columns.{placed};
+ghost use Rattle.sqlite_value.specs.Order.{Row as Values};
 
 use bsp_maps::Rule;
 use sqlite::Row;
@@ -11,9 +12,6 @@ use std::collections::BTreeMap;
 
 /// A table, in which an entry of a key and a value is one row.
 pub trait RowOf<K, V> {
-    ghost use Rattle.std.specs.Prelude.{◌≡◌, IsTrue};
-    ghost use Rattle.sqlite_value.specs.Order.{Row as Values};
-
     ghost row_of: { K × V → Values };
 
     // the entries that have a row

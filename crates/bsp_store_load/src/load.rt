@@ -1,23 +1,20 @@
 //! The rows of a table, put into memory one at a time as a query shows them.
 
-ghost use Rattle.std.specs.Prelude.{◌≡◌, false, true, IfOk, IsTrue, OnOk};
+ghost use Rattle.std.specs.Prelude.{◌≡◌, false, true, IfOk, IsTrue, OnOk, ◌∷◌, List, IsPermutation};
 ghost use Rattle.sqlite.specs.Held.{state};
 ghost use Rattle.sqlite.specs.State.{HasCleanDisk};
 ghost use Rattle.bsp_store_base.specs.Schema.{our_schema};
-ghost use Rattle.bsp_store_base.specs.Kept.{Reads, Spares};
+ghost use Rattle.bsp_store_base.specs.Kept.{Reads, Spares, Part};
 ghost use Rattle.bsp_store_load.specs.Loading.{IsLoaded};
+ghost use Rattle.sqlite_value.specs.Order.{Row as Values};
+ghost use Rattle.bsp_store_base.specs.Content.{Content};
+ghost use Rattle.bsp_store_base.specs.Shows.{ShowsTable};
 
 use bsp_memory_rows::NoRoom;
 use sqlite::{Alter, Connection, Error, ErrorCode, Row};
 
 /// A table of the store whose rows are put into memory one at a time: into `M`, such as the tables in memory, or a map.
 pub trait StoredTable<K, V, M> {
-    ghost use Rattle.std.specs.Prelude.{◌≡◌, ◌∷◌, List, false, true, IfOk, IsTrue, OnOk, IsPermutation};
-    ghost use Rattle.sqlite_value.specs.Order.{Row as Values};
-    ghost use Rattle.bsp_store_base.specs.Content.{Content};
-    ghost use Rattle.bsp_store_base.specs.Kept.{Part};
-    ghost use Rattle.bsp_store_base.specs.Shows.{ShowsTable};
-
     // the table
     ghost part: { Part Content };
 

@@ -1,12 +1,18 @@
 //! The tables of the plan beside that of airlines: each row against the plan in memory.
 
-ghost use Rattle.std.specs.Prelude.{◌≡◌, ◌↔◌, ◌<◌, ◌^◌, length, map, IsTrue, Some};
-ghost use Rattle.bsp_store_base.specs.Columns.{commission_tax_row, meta_rows, period_row, placed, rate_row, terms_rows};
+ghost use Rattle.std.specs.Prelude.{◌≡◌, ◌↔◌, ◌<◌, ◌^◌, ℕ, length, map, IsTrue, Some};
+ghost use Rattle.bsp_store_base.specs.Columns.{meta_rows, placed, terms_rows, rate_row, period_row, commission_tax_row};
+ghost use Rattle.bsp_store_base.specs.Forms.{IsRate, IsPeriod, IsCommissionTax};
+ghost use Rattle.bsp_store_rows.specs.Reading.{IsRateRow, IsPeriodRow, IsCommissionTaxRow};
 
 use crate::equal::{is_only_row, is_row};
 use crate::listed::{RowOf, are_placed_rows_of};
+use crate::plan_rows::ReadsAs;
 use bsp_rows::{CommissionTax, Period, Plan, Rate};
-use bsp_store_rows::{CommissionTaxRow, MetaRow, PeriodRow, RateRow, TermsRow};
+use bsp_store_rows::{
+    CommissionTaxRow, MetaRow, PeriodRow, RateRow, TermsRow, read_commission_tax, read_period,
+    read_rate,
+};
 use sqlite::Row;
 
 /// Whether a count fits the integers of a store.
@@ -18,12 +24,9 @@ fn is_integer(count: usize) -> bool
 
 /// Rates of commission.
 #[derive(Clone, Copy)]
-struct Rates;
+pub(crate) struct Rates;
 
 impl RowOf<usize, Rate> for Rates {
-    ghost use Rattle.bsp_store_base.specs.Columns.{rate_row};
-    ghost use Rattle.std.specs.Prelude.{◌<◌, ◌^◌};
-
     ghost row_of = { rate_row };
 
     ghost has_row = { λ e. e.0 < 2 ^ 63 };
@@ -33,14 +36,19 @@ impl RowOf<usize, Rate> for Rates {
     }
 }
 
+impl ReadsAs<Rate> for Rates {
+    ghost is_in = { λ rate row. IsRate rate × IsRateRow row rate };
+
+    fn read(&self, row: &Row) -> Option<Rate> {
+        read_rate(row)
+    }
+}
+
 /// Billing periods.
 #[derive(Clone, Copy)]
-struct Periods;
+pub(crate) struct Periods;
 
 impl RowOf<usize, Period> for Periods {
-    ghost use Rattle.bsp_store_base.specs.Columns.{period_row};
-    ghost use Rattle.std.specs.Prelude.{◌<◌, ◌^◌};
-
     ghost row_of = { period_row };
 
     ghost has_row = { λ e. e.0 < 2 ^ 63 };
@@ -50,20 +58,33 @@ impl RowOf<usize, Period> for Periods {
     }
 }
 
+impl ReadsAs<Period> for Periods {
+    ghost is_in = { λ period row. IsPeriod period × IsPeriodRow row period };
+
+    fn read(&self, row: &Row) -> Option<Period> {
+        read_period(row)
+    }
+}
+
 /// Taxes on commission.
 #[derive(Clone, Copy)]
-struct CommissionTaxes;
+pub(crate) struct CommissionTaxes;
 
 impl RowOf<usize, CommissionTax> for CommissionTaxes {
-    ghost use Rattle.bsp_store_base.specs.Columns.{commission_tax_row};
-    ghost use Rattle.std.specs.Prelude.{◌<◌, ◌^◌};
-
     ghost row_of = { commission_tax_row };
 
     ghost has_row = { λ e. e.0 < 2 ^ 63 };
 
     fn is_row_of(&self, row: &Row, place: &usize, tax: &CommissionTax) -> bool {
         is_integer(*place) && is_row(row, &CommissionTaxRow::of(*place, tax).values())
+    }
+}
+
+impl ReadsAs<CommissionTax> for CommissionTaxes {
+    ghost is_in = { λ tax row. IsCommissionTax tax × IsCommissionTaxRow row tax };
+
+    fn read(&self, row: &Row) -> Option<CommissionTax> {
+        read_commission_tax(row)
     }
 }
 
@@ -86,26 +107,15 @@ pub(crate) fn are_terms(rows: &[Row], plan: &Plan) -> bool
     }
 }
 
-/// Whether the rows are those of the plan's rates.
-pub(crate) fn are_rates(rows: &[Row], plan: &Plan) -> bool
-    ensures same { IsTrue result → rows.now ≡ map rate_row (placed 0 plan.now.rates) }
-    ensures whole { length plan.now.rates < 2 ^ 63 → rows.now ≡ map rate_row (placed 0 plan.now.rates) → IsTrue result }
+/// Whether the rows are those of values of the plan with their places.
+pub(crate) fn are_placed<V: Copy + Drop, T: RowOf<usize, V>>(
+    table: &T,
+    rows: &[Row],
+    values: &[V],
+) -> bool
+    requires { (e : ℕ × V) → e.0 < 2 ^ 63 → T.has_row e }
+    ensures same { IsTrue result → rows.now ≡ map T.row_of (placed 0 values.now) }
+    ensures whole { length values.now < 2 ^ 63 → rows.now ≡ map T.row_of (placed 0 values.now) → IsTrue result }
 {
-    are_placed_rows_of(&Rates, rows, plan.rates())
-}
-
-/// Whether the rows are those of the plan's periods.
-pub(crate) fn are_periods(rows: &[Row], plan: &Plan) -> bool
-    ensures same { IsTrue result → rows.now ≡ map period_row (placed 0 plan.now.periods) }
-    ensures whole { length plan.now.periods < 2 ^ 63 → rows.now ≡ map period_row (placed 0 plan.now.periods) → IsTrue result }
-{
-    are_placed_rows_of(&Periods, rows, plan.periods())
-}
-
-/// Whether the rows are those of the plan's taxes on commission.
-pub(crate) fn are_commission_taxes(rows: &[Row], plan: &Plan) -> bool
-    ensures same { IsTrue result → rows.now ≡ map commission_tax_row (placed 0 plan.now.commission_taxes) }
-    ensures whole { length plan.now.commission_taxes < 2 ^ 63 → rows.now ≡ map commission_tax_row (placed 0 plan.now.commission_taxes) → IsTrue result }
-{
-    are_placed_rows_of(&CommissionTaxes, rows, plan.commission_taxes())
+    are_placed_rows_of(table, rows, values)
 }

@@ -2,29 +2,27 @@
 
 ghost use Rattle.std.specs.Prelude.{◌≡◌, ◌∷◌, ℕ, List, map, true, IfOk, IsSomeAnd, OnOk, Some};
 ghost use Rattle.std.specs.FinMap.{FinMap, entries};
-ghost use Rattle.std.specs.List.{AllByRecursion};
 ghost use Rattle.std.specs.Ordering.{nat_cmp};
 ghost use Rattle.bsp_rows.specs.History.{IsReached, IsTextOf};
 ghost use Rattle.bsp_rows.specs.History.Request.{Close, SetDay};
 ghost use Rattle.bsp_rows.specs.Published.{Published, opening};
 ghost use Rattle.bsp_rows.specs.SoundPlan.{IsSoundPlan};
 ghost use Rattle.bsp_rows.specs.Period.{Period as PeriodEntry};
-ghost use Rattle.bsp_rows.specs.Rate.{Rate as RateEntry};
-ghost use Rattle.bsp_rows.specs.CommissionTax.{CommissionTax as TaxEntry};
 ghost use Rattle.bsp_rows.specs.Terms.{Terms as TermsEntry};
 ghost use Rattle.bsp_store_base.specs.Airlines.{airline_entries};
-ghost use Rattle.bsp_store_base.specs.Columns.{Meta, commission_tax_row, meta_rows, period_row, placed, rate_row, terms_rows};
-ghost use Rattle.bsp_store_base.specs.Forms.{AreTerms, IsCommissionTax, IsMeta, IsPeriod, IsRate};
-ghost use Rattle.bsp_memory_rows.specs.Tables.{IsDerived, rows_of};
-ghost use Rattle.bsp_store_load.specs.Entries.{MayAll, after_all};
-ghost use Rattle.bsp_store_load.specs.Stored.{AreRowsOfPlan, IsFormedPlan, MayClose, closing};
+ghost use Rattle.bsp_store_base.specs.Columns.{Meta, meta_rows, period_row, terms_rows};
+ghost use Rattle.bsp_store_base.specs.Forms.{AreTerms, IsMeta, IsPeriod};
+ghost use Rattle.bsp_memory_rows.specs.Tables.{rows_of};
+ghost use Rattle.bsp_store_load.specs.Loading.{MayAll, after_all};
+ghost use Rattle.bsp_store_load.specs.Stored.{AreRowsOfPlan, ChangesPlan, IsFormedPlan, MayClose, closing};
 
 use crate::airlines::published_in;
-use crate::plan_rows::PlanRows;
+use crate::plan::{CommissionTaxes, Periods, Rates};
+use crate::plan_rows::{PlanRows, read_all};
 use bsp_memory_rows::{NoRoom, Tables};
-use bsp_rows::{AirlineCode, CommissionTax, Day, Period, PlanText, Rate, Terms};
+use bsp_rows::{AirlineCode, Day, PlanText, Terms};
 use bsp_store_base::AirlineEntry;
-use bsp_store_rows::{read_commission_tax, read_meta, read_period, read_rate, read_terms};
+use bsp_store_rows::{read_meta, read_period, read_terms};
 use sqlite::Row;
 use std::alloc::{AllocError, Global};
 
@@ -42,51 +40,6 @@ fn terms_in(rows: &[Row]) -> Option<Terms>
     read_terms(rows.first()?)
 }
 
-/// The rates of rows; none where one reads as none.
-fn rates_in(alloc: Global, rows: &[Row]) -> Result<Option<Vec<Rate>>, AllocError>
-    ensures { IfOk result (λ found. (values : List RateEntry) → AllByRecursion IsRate values → rows.now ≡ map rate_row (placed 0 values) → IsSomeAnd found (λ v. v.items ≡ values)) }
-{
-    let mut found = Vec::new(alloc);
-    for row in rows {
-        let Some(rate) = read_rate(row) else {
-            return Ok(None);
-        };
-        found.push(rate)?;
-    }
-    Ok(Some(found))
-}
-
-/// The periods of rows; none where one reads as none.
-fn periods_in(alloc: Global, rows: &[Row]) -> Result<Option<Vec<Period>>, AllocError>
-    ensures { IfOk result (λ found. (values : List PeriodEntry) → AllByRecursion IsPeriod values → rows.now ≡ map period_row (placed 0 values) → IsSomeAnd found (λ v. v.items ≡ values)) }
-{
-    let mut found = Vec::new(alloc);
-    for row in rows {
-        let Some(period) = read_period(row) else {
-            return Ok(None);
-        };
-        found.push(period)?;
-    }
-    Ok(Some(found))
-}
-
-/// The taxes on commission of rows; none where one reads as none.
-fn commission_taxes_in(
-    alloc: Global,
-    rows: &[Row],
-) -> Result<Option<Vec<CommissionTax>>, AllocError>
-    ensures { IfOk result (λ found. (values : List TaxEntry) → AllByRecursion IsCommissionTax values → rows.now ≡ map commission_tax_row (placed 0 values) → IsSomeAnd found (λ v. v.items ≡ values)) }
-{
-    let mut found = Vec::new(alloc);
-    for row in rows {
-        let Some(tax) = read_commission_tax(row) else {
-            return Ok(None);
-        };
-        found.push(tax)?;
-    }
-    Ok(Some(found))
-}
-
 /// The plan's text that rows of terms say, with the airlines, rates, periods and taxes on commission; none where there
 /// are no terms, or a row reads as none.
 fn text_of(
@@ -100,13 +53,13 @@ fn text_of(
     let Some(terms) = terms_in(&rows.terms) else {
         return Ok(None);
     };
-    let Some(rates) = rates_in(alloc, &rows.rates)? else {
+    let Some(rates) = read_all(alloc, &Rates, &rows.rates)? else {
         return Ok(None);
     };
-    let Some(periods) = periods_in(alloc, &rows.periods)? else {
+    let Some(periods) = read_all(alloc, &Periods, &rows.periods)? else {
         return Ok(None);
     };
-    let Some(commission_taxes) = commission_taxes_in(alloc, &rows.commission_taxes)? else {
+    let Some(commission_taxes) = read_all(alloc, &CommissionTaxes, &rows.commission_taxes)? else {
         return Ok(None);
     };
     let airlines = published_in(alloc, airlines)?;
@@ -126,8 +79,7 @@ fn publish_rows(
     rows: &PlanRows,
     airlines: &[(AirlineCode, AirlineEntry)],
 ) -> Result<bool, NoRoom>
-    ensures derived { OnOk result (IsDerived tables.old → IsDerived tables.new) }
-    ensures others { OnOk result (rows_of tables.new ≡ record (rows_of tables.old) { published = (rows_of tables.new).published }) }
+    ensures changes { OnOk result (ChangesPlan tables.old tables.new) }
     ensures plan { IfOk result (λ done. (p : Published) (tokens : FinMap nat_cmp (List ℕ)) → IsSoundPlan p → IsFormedPlan p tokens → AreRowsOfPlan p tokens rows.now
         → airlines.now ≡ entries (airline_entries p.airlines tokens) → (rows_of tables.old).published ≡ opening
         → (done ≡ true) × (next : Published) × (rows_of tables.new ≡ record (rows_of tables.old) { published = next }) × IsReached next (SetDay p.day ∷ map (λ code. Close code) p.closed) p) }
@@ -144,8 +96,7 @@ fn publish_rows(
 
 /// Closes the period of a row, and answers false where the row is none or the period is not closed.
 fn close_period(tables: &mut Tables, row: &Row) -> Result<bool, NoRoom>
-    ensures derived { OnOk result (IsDerived tables.old → IsDerived tables.new) }
-    ensures others { OnOk result (rows_of tables.new ≡ record (rows_of tables.old) { published = (rows_of tables.new).published }) }
+    ensures changes { OnOk result (ChangesPlan tables.old tables.new) }
     ensures entry { IfOk result (λ done. (e : ℕ × PeriodEntry) → MayClose IsPeriod e (rows_of tables.old) → row.now ≡ period_row e → (done ≡ true) × (rows_of tables.new ≡ closing e (rows_of tables.old))) }
 {
     let Some(period) = read_period(row) else {
@@ -156,8 +107,7 @@ fn close_period(tables: &mut Tables, row: &Row) -> Result<bool, NoRoom>
 
 /// Closes the periods of rows, one after another, and answers false at the first that is not closed.
 fn close_periods(tables: &mut Tables, rows: &[Row]) -> Result<bool, NoRoom>
-    ensures derived { OnOk result (IsDerived tables.old → IsDerived tables.new) }
-    ensures others { OnOk result (rows_of tables.new ≡ record (rows_of tables.old) { published = (rows_of tables.new).published }) }
+    ensures changes { OnOk result (ChangesPlan tables.old tables.new) }
     ensures entries { IfOk result (λ done. (es : List (ℕ × PeriodEntry)) → MayAll closing (MayClose IsPeriod) es (rows_of tables.old) → rows.now ≡ map period_row es → (done ≡ true) × (rows_of tables.new ≡ after_all closing es (rows_of tables.old))) }
 {
     for row in rows {
@@ -170,8 +120,7 @@ fn close_periods(tables: &mut Tables, rows: &[Row]) -> Result<bool, NoRoom>
 
 /// Sets the business day and closes the periods that rows say, and answers false where that is refused.
 fn move_on(tables: &mut Tables, rows: &PlanRows) -> Result<bool, NoRoom>
-    ensures derived { OnOk result (IsDerived tables.old → IsDerived tables.new) }
-    ensures others { OnOk result (rows_of tables.new ≡ record (rows_of tables.old) { published = (rows_of tables.new).published }) }
+    ensures changes { OnOk result (ChangesPlan tables.old tables.new) }
     ensures plan { IfOk result (λ done. (p : Published) (tokens : FinMap nat_cmp (List ℕ)) → IsSoundPlan p → IsFormedPlan p tokens → AreRowsOfPlan p tokens rows.now → IsReached (rows_of tables.old).published (SetDay p.day ∷ map (λ code. Close code) p.closed) p
         → (done ≡ true) × (rows_of tables.new ≡ record (rows_of tables.old) { published = p })) }
 {
@@ -196,8 +145,7 @@ pub(crate) fn put_plan(
     rows: &PlanRows,
     airlines: &[(AirlineCode, AirlineEntry)],
 ) -> Result<bool, NoRoom>
-    ensures derived { OnOk result (IsDerived tables.old → IsDerived tables.new) }
-    ensures others { OnOk result (rows_of tables.new ≡ record (rows_of tables.old) { published = (rows_of tables.new).published }) }
+    ensures changes { OnOk result (ChangesPlan tables.old tables.new) }
     ensures plan { IfOk result (λ done. (p : Published) (tokens : FinMap nat_cmp (List ℕ)) → IsSoundPlan p → IsFormedPlan p tokens → AreRowsOfPlan p tokens rows.now
         → airlines.now ≡ entries (airline_entries p.airlines tokens) → (rows_of tables.old).published ≡ opening
         → (done ≡ true) × (rows_of tables.new ≡ record (rows_of tables.old) { published = p })) }

@@ -1,11 +1,18 @@
 //! The table of the second related documents: each row, put into a map, and the map against the items in memory.
 
-ghost use Rattle.std.specs.Prelude.{◌≡◌, ◌↔◌, IsTrue};
-ghost use Rattle.std.specs.FinMap.{from_entries};
+ghost use Rattle.std.specs.Prelude.{◌≡◌, ◌↔◌, is_some, map, IsTrue, None, Some};
+ghost use Rattle.std.specs.FinMap.{from_entries, FinMap, entries, get, insert};
+ghost use Rattle.std.specs.List.{filter_map};
 ghost use Rattle.bsp_memory_tables.specs.ItemTables.{item_rows};
-ghost use Rattle.bsp_store_base.specs.Seconds.{seconds_of};
+ghost use Rattle.bsp_store_base.specs.Seconds.{seconds_of, ticket_cmp, second_entry};
+ghost use Rattle.bsp_rows.specs.ReportedDocument.{ReportedDocument as Document};
+ghost use Rattle.bsp_store_base.specs.Columns.{second_row};
+ghost use Rattle.bsp_store_base.specs.Content.{second_part};
+ghost use Rattle.bsp_store_base.proofs.SecondLemmas.{ticket_total};
+ghost use Rattle.bsp_store_load.specs.Adding.{entry_added};
+ghost use Rattle.bsp_store_load.specs.Beside.{IsSecond};
 
-use crate::entries::{EntryOf, are_entries_of, put_new};
+use crate::entries::put_new;
 use crate::equal::is_row;
 use crate::load::StoredTable;
 use bsp_memory_rows::NoRoom;
@@ -22,16 +29,6 @@ pub struct StoredSeconds;
 
 impl StoredTable<TicketKey, ReportedDocument, BTreeMap<TicketKey, ReportedDocument>>
     for StoredSeconds {
-    ghost use Rattle.std.specs.Prelude.{◌≡◌, map, None};
-    ghost use Rattle.std.specs.FinMap.{FinMap, entries, from_entries, get, insert};
-    ghost use Rattle.bsp_rows.specs.ReportedDocument.{ReportedDocument as Document};
-    ghost use Rattle.bsp_store_base.specs.Columns.{second_row};
-    ghost use Rattle.bsp_store_base.specs.Content.{second_part};
-    ghost use Rattle.bsp_store_base.specs.Seconds.{ticket_cmp};
-    ghost use Rattle.bsp_store_base.proofs.SecondLemmas.{ticket_total};
-    ghost use Rattle.bsp_store_load.specs.Adding.{entry_added};
-    ghost use Rattle.bsp_store_load.specs.Beside.{IsSecond};
-
     ghost part = { second_part };
 
     ghost Whole = { FinMap ticket_cmp Document };
@@ -71,33 +68,48 @@ impl StoredTable<TicketKey, ReportedDocument, BTreeMap<TicketKey, ReportedDocume
     }
 }
 
-/// An item that is no CANX may have a second related document, under its ticket.
-#[derive(Clone, Copy)]
-struct SecondOf;
+/// Whether an item has a second related document under its ticket. An item that is no CANX may have one.
+fn has_second(key: &ItemKey, item: &Item) -> bool
+    ensures { result ≡ is_some (second_entry (key.now, item.now)) }
+{
+    !key.is_canx && second_related(&item.transaction).is_some()
+}
 
-impl EntryOf<ItemKey, Item, TicketKey, ReportedDocument> for SecondOf {
-    ghost use Rattle.bsp_store_base.specs.Seconds.{second_entry};
+/// Whether these are the ticket of an item and its second related document.
+fn is_second(key: &ItemKey, item: &Item, own_key: &TicketKey, own: &ReportedDocument) -> bool
+    ensures { IsTrue result ↔ (second_entry (key.now, item.now) ≡ Some (own_key.now, own.now)) }
+{
+    TicketKey::of(key) == Some(*own_key) && second_related(&item.transaction) == Some(*own)
+}
 
-    ghost entry_of = { second_entry };
-
-    fn has_entry(&self, key: &ItemKey, item: &Item) -> bool {
-        !key.is_canx && second_related(&item.transaction).is_some()
+/// Whether the entries of a map are the second related documents of the items of another, in their order.
+fn are_seconds_of(
+    own: &BTreeMap<TicketKey, ReportedDocument>,
+    entries: &BTreeMap<ItemKey, Item>,
+) -> bool
+    ensures { IsTrue result ↔ (own.now.entries ≡ filter_map second_entry entries.now.entries) }
+{
+    let mut rest = own.iter();
+    for (key, value) in entries {
+        if !has_second(key, value) {
+            continue;
+        }
+        let Some((own_key, own_value)) = rest.next() else {
+            return false;
+        };
+        if !is_second(key, value, own_key, own_value) {
+            return false;
+        }
     }
-
-    fn is_entry(
-        &self,
-        key: &ItemKey,
-        item: &Item,
-        own_key: &TicketKey,
-        own: &ReportedDocument,
-    ) -> bool {
-        TicketKey::of(key) == Some(*own_key) && second_related(&item.transaction) == Some(*own)
-    }
+    rest.next().is_none()
 }
 
 /// Whether the documents are the second related documents of the items of a table, each under its ticket.
 pub fn are_seconds(seconds: &BTreeMap<TicketKey, ReportedDocument>, items: &ItemTable) -> bool
     ensures { IsTrue result ↔ (from_entries seconds.now.entries ≡ seconds_of (item_rows items.now)) }
 {
-    are_entries_of(&SecondOf, seconds, items.map())
+    let all = items.map();
+    let _count = all.len();
+    let _own = seconds.len();
+    are_seconds_of(seconds, all)
 }

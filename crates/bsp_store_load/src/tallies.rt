@@ -5,6 +5,7 @@ ghost use Rattle.std.specs.FinMap.{entries};
 ghost use Rattle.bsp_store_base.specs.Columns.{tally_row, tally_tax_row};
 ghost use Rattle.bsp_store_load.specs.Contents.{used_tallies};
 ghost use Rattle.bsp_memory_tables.specs.TallyTables.{tally_rows};
+ghost use Rattle.bsp_memory_rows.specs.Lookups.{has_rows};
 
 use crate::equal::is_row;
 use crate::listed::{RowOf, are_rows_of};
@@ -20,8 +21,6 @@ use sqlite::Row;
 struct StoredTallies;
 
 impl RowOf<TallyKey, Tally> for StoredTallies {
-    ghost use Rattle.bsp_store_base.specs.Columns.{tally_row};
-
     ghost row_of = { tally_row };
 
     fn is_row_of(&self, row: &Row, key: &TallyKey, tally: &Tally) -> bool {
@@ -34,8 +33,6 @@ impl RowOf<TallyKey, Tally> for StoredTallies {
 struct StoredTallyTaxes;
 
 impl RowOf<TallyKey, Tally> for StoredTallyTaxes {
-    ghost use Rattle.bsp_store_base.specs.Columns.{tally_tax_row};
-
     ghost row_of = { tally_tax_row };
 
     fn is_row_of(&self, row: &Row, key: &TallyKey, tally: &Tally) -> bool {
@@ -48,8 +45,6 @@ impl RowOf<TallyKey, Tally> for StoredTallyTaxes {
 struct Used;
 
 impl Rule<TallyKey, Tally> for Used {
-    ghost use Rattle.bsp_memory_rows.specs.Lookups.{has_rows};
-
     ghost holds = { λ rule key tally. has_rows tally };
 
     fn holds(&self, _key: &TallyKey, tally: &Tally) -> bool {

@@ -1,13 +1,25 @@
-use Rattle.std.proofs.Common.{map, sym, ap, ◌∙◌, nat_cmp}
+use Rattle.std.proofs.Common.{◌≡◌, ℕ, List, map, sym, ap, subst, ◌∙◌, nat_cmp}
 use Rattle.std.specs.Cmp.{nat_cmp_total}
-use Rattle.std.specs.FinMap.{from_entries, nat_cmp-IsAntisymmetric}
+use Rattle.std.specs.FinMap.{FinMap, empty, from_entries, nat_cmp-IsAntisymmetric}
+use Rattle.std.specs.List.Sorted.{IsStrictlySortedBy}
+use Rattle.std.specs.Map.{keys_of}
 use Rattle.std.specs.Map.Iter.{deref_pair}
 use Rattle.std.proofs.lemmas.Map.Iter.{rest_all, rest_more}
+use Rattle.sqlite_trees.proofs.ListLemmas.{map-map}
+use Rattle.bsp_maps.proofs.OrderLemmas.{in_order}
 use Rattle.bsp_maps.proofs.UndoLemmas.{written}
-use Rattle.bsp_store_base.specs.Airlines.{unplaced}
-use Rattle.bsp_store_load.proofs.AirlineMap.{registered_all}
-use Rattle.bsp_store_load.proofs.PutLemmas.{inserted}
+use Rattle.bsp_store_base.specs.declared.airlines.AirlineEntry.{AirlineEntry}
+use Rattle.bsp_store_base.specs.Airlines.{registered, unplaced}
+use Rattle.bsp_store_load.proofs.PutLemmas.{inserted, inserted_all}
 use Rattle.bsp_store_load.proofs.airline_map.registered.Goals as goal
+
+-- the registered airlines are put one after another
+registered_all : (es : List (ℕ × List ℕ)) → IsStrictlySortedBy nat_cmp (keys_of es) → inserted empty (map unplaced es) ≡ registered (from_entries es)
+registered_all es up =
+    let made : FinMap nat_cmp AirlineEntry = from_entries (map unplaced es) in
+    let rise : IsStrictlySortedBy nat_cmp (keys_of (map unplaced es)) = subst (IsStrictlySortedBy nat_cmp) (sym (map-map (λ (e : ℕ × AirlineEntry). e.0) unplaced es)) up in
+    ap (inserted empty) (sym (in_order nat_cmp_total (map unplaced es) rise)) ∙ inserted_all nat_cmp_total made
+    ∙ ap (λ l. from_entries (map unplaced l)) (sym (in_order nat_cmp_total es up))
 
 pub loop-code-preserved : goal.loop-code-preserved
 loop-code-preserved c =

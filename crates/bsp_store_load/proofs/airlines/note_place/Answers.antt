@@ -3,7 +3,7 @@ use Rattle.std.specs.Prelude.{option_map}
 use Rattle.std.specs.Cmp.{nat_cmp_total}
 use Rattle.std.specs.FinMap.{from_entries, nat_cmp-IsAntisymmetric}
 use Rattle.bsp_maps.proofs.UndoLemmas.{written}
-use Rattle.bsp_store_load.specs.Gathered.{with_pair}
+use Rattle.bsp_store_load.specs.Stored.{with_pair}
 use Rattle.bsp_store_load.proofs.airlines.note_place.Goals as goal
 
 pub returns-in_ok-insert : goal.returns-in_ok-insert

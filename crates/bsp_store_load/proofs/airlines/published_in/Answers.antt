@@ -3,7 +3,7 @@ use Rattle.std.specs.FinMap.{empty, from_entries}
 use Rattle.std.proofs.lemmas.List.{take_all}
 use Rattle.bsp_maps.proofs.PickLemmas.{if_ok}
 use Rattle.bsp_store_base.proofs.Placing.{one_more}
-use Rattle.bsp_store_load.specs.Gathered.{gathered, placed_code, with_pair}
+use Rattle.bsp_store_load.specs.Stored.{gathered, placed_code, with_pair}
 use Rattle.bsp_store_load.proofs.AirlineReads.{codes_in_order}
 use Rattle.bsp_store_load.proofs.Gathering.{gathered_last}
 use Rattle.bsp_store_load.proofs.airlines.published_in.Goals as goal

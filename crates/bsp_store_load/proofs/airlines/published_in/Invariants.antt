@@ -1,6 +1,6 @@
 use Rattle.std.proofs.Common.{◌≡◌, take, nat_cmp}
 use Rattle.std.specs.FinMap.{empty, from_entries}
-use Rattle.bsp_store_load.specs.Gathered.{gathered, placed_code}
+use Rattle.bsp_store_load.specs.Stored.{gathered, placed_code}
 use Rattle.bsp_store_load.proofs.airlines.published_in.Given as goal
 
 abbrev pub invariant-loop-airline : goal.invariant-loop-airline

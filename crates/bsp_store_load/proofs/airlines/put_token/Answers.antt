@@ -5,8 +5,8 @@ use Rattle.std.specs.Prelude.{option_map}
 use Rattle.bsp_rows.specs.Rows.{Rows}
 use Rattle.bsp_memory_rows.specs.Tables.{rows_of}
 use Rattle.bsp_store_load.specs.Formed.{IsRegisteredAirline, OnEach}
-use Rattle.bsp_store_load.specs.Gathered.{with_pair}
-use Rattle.bsp_store_load.proofs.Forming.{each_inserted}
+use Rattle.bsp_store_load.specs.Stored.{with_pair}
+use Rattle.bsp_store_load.proofs.FormedContent.{each_inserted}
 use Rattle.bsp_store_load.proofs.airlines.put_token.Goals as goal
 
 pub returns-in_ok-set_airline_token-clause-rows : goal.returns-in_ok-set_airline_token-clause-rows

@@ -5,7 +5,7 @@ use Rattle.bsp_rows.specs.Rows.{Rows}
 use Rattle.bsp_memory_rows.specs.Tables.{rows_of}
 use Rattle.bsp_store_base.specs.Airlines.{airline_entries}
 use Rattle.bsp_store_base.proofs.Placing.{one_more}
-use Rattle.bsp_store_load.specs.Gathered.{code_token, gathered, with_pair}
+use Rattle.bsp_store_load.specs.Stored.{code_token, gathered, with_pair}
 use Rattle.bsp_store_load.proofs.AirlineReads.{tokens_are}
 use Rattle.bsp_store_load.proofs.Gathering.{gathered_last}
 use Rattle.bsp_store_load.proofs.airlines.put_tokens.Goals as goal
@@ -24,11 +24,15 @@ loop-airline-preserved c =
           ∙ ap (λ l. record first { airlines = gathered code_token l first.airlines }) (one_more c.args.airlines.now c.loop-airline.airline-index e c.loop-airline-test.true c.airline-item.is);
     }
 
-pub returns-clause-others : goal.returns-clause-others
-returns-clause-others c =
+pub returns-clause-changes : goal.returns-clause-changes
+returns-clause-changes c =
     let first = rows_of c.args.tables.now in
     let is = c.loop-airline.invariant.rows in
-    is ∙ ap (λ m. record first { airlines = m }) (sym (ap (λ (r : Rows). r.airlines) is))
+    record {
+      derived = c.loop-airline.invariant.derived;
+      registered = c.loop-airline.invariant.registered;
+      others = is ∙ ap (λ m. record first { airlines = m }) (sym (ap (λ (r : Rows). r.airlines) is));
+    }
 
 pub returns-clause-tokens : goal.returns-clause-tokens
 returns-clause-tokens c = λ codes tokens none listed.

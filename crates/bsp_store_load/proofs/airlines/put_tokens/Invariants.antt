@@ -1,7 +1,7 @@
 use Rattle.std.proofs.Common.{◌≡◌, take}
 use Rattle.bsp_memory_rows.specs.Tables.{IsDerived, rows_of}
 use Rattle.bsp_store_load.specs.Formed.{IsRegisteredAirline, OnEach}
-use Rattle.bsp_store_load.specs.Gathered.{code_token, gathered}
+use Rattle.bsp_store_load.specs.Stored.{code_token, gathered}
 use Rattle.bsp_store_load.proofs.airlines.put_tokens.Given as goal
 
 abbrev pub invariant-loop-airline : goal.invariant-loop-airline

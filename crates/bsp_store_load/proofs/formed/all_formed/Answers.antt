@@ -8,7 +8,7 @@ loop-at-preserved g c = λ rest.
     let values = c.args.values.now in
     let i = c.loop-at.at in
     let next = at_drop_more (λ l. l) values i c.index-values-at.result c.loop-at-test.true ∙ ap (λ v. v ∷ drop (i + 1) values) (sym c.index-values-at.is) in
-    c.loop-at.invariant (subst (AllByRecursion g.F.FormedValue.is_formed) (sym next) (c.see.ensures, rest))
+    c.loop-at.invariant (subst (AllByRecursion g.V.Formed.is_formed) (sym next) (c.see.ensures, rest))
 
 pub returns : goal.returns
-returns g c = c.loop-at.invariant (subst (AllByRecursion g.F.FormedValue.is_formed) (sym (drop_all c.loop-at.at c.args.values.now c.loop-at-test.false)) tt)
+returns g c = c.loop-at.invariant (subst (AllByRecursion g.V.Formed.is_formed) (sym (drop_all c.loop-at.at c.args.values.now c.loop-at-test.false)) tt)

@@ -3,4 +3,4 @@ use Rattle.std.specs.List.{AllByRecursion}
 use Rattle.bsp_store_load.proofs.formed.all_formed.Given as goal
 
 abbrev pub invariant-loop-at : goal.invariant-loop-at
-invariant-loop-at g l = AllByRecursion g.F.FormedValue.is_formed (drop l.at l.values) → AllByRecursion g.F.FormedValue.is_formed l.values
+invariant-loop-at g l = AllByRecursion g.V.Formed.is_formed (drop l.at l.values) → AllByRecursion g.V.Formed.is_formed l.values

@@ -10,15 +10,13 @@ use Rattle.bsp_store_load.proofs.published.close_periods.Goals as goal
 
 pub loop-row-init : goal.loop-row-init
 loop-row-init c = record {
-  derived = λ is. is;
-  others = refl;
+  changes = record { derived = λ is. is; others = refl };
   entries = λ es may same. begun period_row closing (MayClose IsPeriod) es (rows_of c.args.tables.now) may;
 }
 
 pub loop-row-preserved : goal.loop-row-preserved
 loop-row-preserved c = record {
-  derived = λ is. c.in_ok-close_period.ensures.derived (c.loop-row.invariant.derived is);
-  others = plan_alone (rows_of c.args.tables.now) (rows_of c.loop-row.tables) (rows_of c.close_period.new.tables) c.loop-row.invariant.others c.in_ok-close_period.ensures.others;
+  changes = plan_alone c.args.tables.now c.loop-row.tables c.close_period.new.tables c.loop-row.invariant.changes c.in_ok-close_period.ensures.changes;
   entries = λ es may same. (gone_on period_row closing (MayClose IsPeriod) es c.args.rows.now c.loop-row.row-index c.row-item.result (rows_of c.args.tables.now) (rows_of c.loop-row.tables) (rows_of c.close_period.new.tables) _
       same c.loop-row-test.true c.row-item.is (c.loop-row.invariant.entries es may same) c.in_ok-close_period.ensures.entry).1;
 }

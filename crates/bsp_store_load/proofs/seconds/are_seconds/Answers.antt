@@ -1,17 +1,19 @@
 use Rattle.std.proofs.Common.{sym, ap, ◌∙◌}
+use Rattle.std.specs.FinMap.{entries, same_entries_map}
 use Rattle.std.specs.List.{filter_map}
 use Rattle.bsp_maps.proofs.ContentLemmas.{of_content}
+use Rattle.bsp_maps.proofs.OrderLemmas.{in_order}
 use Rattle.bsp_memory_tables.specs.ItemTables.{item_rows}
 use Rattle.bsp_rows.proofs.KeyOrders.{item_total}
-use Rattle.bsp_store_base.specs.Seconds.{second_entry, seconds_of}
+use Rattle.bsp_store_base.specs.Seconds.{second_entry}
 use Rattle.bsp_store_base.proofs.SecondLemmas.{entries-seconds_of, ticket_total}
-use Rattle.bsp_store_load.proofs.Maps.{from_same_entries, same_entries}
 use Rattle.bsp_store_load.proofs.seconds.are_seconds.Goals as goal
 
 pub returns : goal.returns
 returns c =
     let items = item_rows c.args.items.now in
-    let all = ap (filter_map second_entry) (of_content item_total c.args.items.now.rows c.map.result.now c.map.ensures c.are_entries_of.ensures.ordered) ∙ sym (entries-seconds_of items) in (
-      λ t. from_same_entries ticket_total c.args.seconds.now.entries c.are_entries_of.ensures.own_ordered (seconds_of items) (c.are_entries_of.ensures.same.0 t ∙ all),
-      λ is. c.are_entries_of.ensures.same.1 (same_entries ticket_total c.args.seconds.now.entries c.are_entries_of.ensures.own_ordered (seconds_of items) is ∙ sym all),
+    let all = ap (filter_map second_entry) (of_content item_total c.args.items.now.rows c.map-all.result.now c.map-all.ensures c.len-count.ensures.ordered) ∙ sym (entries-seconds_of items) in
+    let own = in_order ticket_total c.args.seconds.now.entries c.len-own.ensures.ordered in (
+      λ t. same_entries_map _ _ (own ∙ c.are_seconds_of.ensures.0 t ∙ all),
+      λ is. c.are_seconds_of.ensures.1 (sym own ∙ ap entries is ∙ sym all),
     )

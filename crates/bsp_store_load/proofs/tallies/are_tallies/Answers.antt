@@ -2,7 +2,7 @@ use Rattle.std.proofs.Common.{sym, ◌∙◌}
 use Rattle.std.specs.List.{filter}
 use Rattle.bsp_memory_rows.specs.Lookups.{has_rows}
 use Rattle.bsp_store_base.specs.Columns.{tally_row}
-use Rattle.bsp_store_load.proofs.Maps.{all_have, used_are}
+use Rattle.bsp_store_load.proofs.TallyLemmas.{all_have, used_are}
 use Rattle.bsp_store_load.proofs.tallies.are_tallies.Goals as goal
 
 pub returns : goal.returns

@@ -1,17 +1,14 @@
 use Rattle.std.proofs.Common.{rules, ◌≡◌, refl, sym, ap, subst, ◌∙◌}
-use Rattle.std.proofs.lemmas.Bool.{both_ways}
 use Rattle.std.specs.FinMap.{get}
-use Rattle.sqlite.specs.Values.{bound}
 use Rattle.bsp_rows.specs.Writes.{with_agent_token}
 use Rattle.bsp_memory_rows.specs.Tables.{rows_of}
 use Rattle.bsp_store_base.specs.Columns.{agent_row}
 use Rattle.bsp_store_base.specs.Forms.{IsAgentEntry}
 use Rattle.bsp_store_rows.specs.CallerReading.{agent_in}
 use Rattle.bsp_store_rows.proofs.CallerBack.{agent_back}
-use Rattle.bsp_store_load.specs.Entries.{has_real}
 use Rattle.bsp_store_load.specs.Formed.{AreFormed}
 use Rattle.bsp_store_load.proofs.FormedContent.{agent_formed}
-use Rattle.bsp_store_load.proofs.RowReads.{none_found, not_none, own_is, own_row}
+use Rattle.bsp_store_load.proofs.RowReads.{none_found, not_none, own_is, not_refused}
 use Rattle.bsp_store_load.proofs.callers.AgentsStoredTableAgentCodeTokenTables.put.Goals as goal
 
 pub returns-in_default-clause-entry : goal.returns-in_default-clause-entry
@@ -21,10 +18,7 @@ returns-in_default-clause-entry c = λ e fits lacks is.
 pub returns-then-not-is_row-clause-entry : goal.returns-then-not-is_row-clause-entry
 returns-then-not-is_row-clause-entry c = λ e fits lacks is.
     let some = c.read_agent.ensures ∙ ap agent_in is ∙ agent_back e.0 e.1 fits.agent.has_digits fits.agent.is_checked fits.token in
-    let own = own_row agent_row c.args.row.now c.read_agent.result e some (c.in-Some.agent, c.in-Some.token) c.in-Some.is is in
-    let texts : bound c.values.result ≡ agent_row (c.in-Some.agent, c.in-Some.token) = search rules in
-    let fine = c.is_row.ensures.whole (own ∙ sym texts) (ap has_real is) in
-    absurd (both_ways _ c.if-not-is_row.true fine)
+    absurd (not_refused agent_row c.args.row.now c.read_agent.result e some (c.in-Some.agent, c.in-Some.token) c.in-Some.is is c.values.result (search rules) refl _ c.if-not-is_row.true c.is_row.ensures.whole)
 
 pub returns-then-is_some-clause-entry : goal.returns-then-is_some-clause-entry
 returns-then-is_some-clause-entry c = λ e fits lacks is.

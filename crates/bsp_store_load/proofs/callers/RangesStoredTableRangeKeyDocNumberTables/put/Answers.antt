@@ -1,5 +1,4 @@
-use Rattle.std.proofs.Common.{◌≡◌, ℕ, refl, sym, ap, subst, ◌∙◌}
-use Rattle.std.proofs.lemmas.Bool.{both_ways}
+use Rattle.std.proofs.Common.{◌≡◌, ℕ, refl, sym, ap, subst, ◌∙◌, Option, Some}
 use Rattle.std.specs.FinMap.{get}
 use Rattle.bsp_rows.specs.Rows.{range_of}
 use Rattle.bsp_rows.specs.Writes.{with_range}
@@ -7,12 +6,18 @@ use Rattle.bsp_rows.specs.declared.keys.RangeKey.{RangeKey}
 use Rattle.bsp_memory_rows.specs.Tables.{rows_of}
 use Rattle.bsp_memory_tables.specs.RangeTables.{range_rows}
 use Rattle.bsp_store_base.specs.Columns.{stock_row}
-use Rattle.bsp_store_load.specs.Entries.{has_real}
-use Rattle.bsp_store_load.proofs.RangeReads.{range_is}
 use Rattle.bsp_store_load.specs.Formed.{AreFormed}
 use Rattle.bsp_store_load.proofs.FormedContent.{range_formed}
-use Rattle.bsp_store_load.proofs.RowReads.{found_none, none_found, not_none, own_is, own_row}
+use Rattle.bsp_store_load.proofs.RowReads.{found_none, none_found, not_none, own_is, not_refused}
+use Rattle.sqlite_value.specs.Order.{Row}
+use Rattle.bsp_store_base.specs.Forms.{IsRangeEntry}
+use Rattle.bsp_store_rows.specs.CallerReading.{range_in}
+use Rattle.bsp_store_rows.proofs.CallerBack.{range_back}
 use Rattle.bsp_store_load.proofs.callers.RangesStoredTableRangeKeyDocNumberTables.put.Goals as goal
+
+module _ (row : Row) (read : Option (RangeKey × ℕ)) (e : RangeKey × ℕ) (reads : read ≡ range_in row) (fits : IsRangeEntry e) (is : row ≡ stock_row e) where
+  range_is : read ≡ Some e
+  range_is = reads ∙ ap range_in is ∙ range_back e.0 e.1 fits.agent.has_digits fits.agent.is_checked fits.first fits.last
 
 pub returns-in_default-clause-entry : goal.returns-in_default-clause-entry
 returns-in_default-clause-entry c = λ e fits lacks is. absurd (not_none stock_row c.args.row.now c.read_range.result e (range_is c.args.row.now c.read_range.result e c.read_range.ensures fits is) c.in_default.is)
@@ -20,9 +25,7 @@ returns-in_default-clause-entry c = λ e fits lacks is. absurd (not_none stock_r
 pub returns-then-not-is_row-clause-entry : goal.returns-then-not-is_row-clause-entry
 returns-then-not-is_row-clause-entry c = λ e fits lacks is.
     let some = range_is c.args.row.now c.read_range.result e c.read_range.ensures fits is in
-    let own = own_row stock_row c.args.row.now c.read_range.result e some (c.in-Some.key, c.in-Some.last) c.in-Some.is is in
-    let fine = c.is_row.ensures.whole (own ∙ sym c.of.ensures ∙ sym c.values.ensures) (ap has_real is) in
-    absurd (both_ways _ c.if-not-is_row.true fine)
+    absurd (not_refused stock_row c.args.row.now c.read_range.result e some (c.in-Some.key, c.in-Some.last) c.in-Some.is is c.values.result (c.values.ensures ∙ c.of.ensures) refl _ c.if-not-is_row.true c.is_row.ensures.whole)
 
 pub returns-then-is_some-clause-entry : goal.returns-then-is_some-clause-entry
 returns-then-is_some-clause-entry c = λ e fits lacks is.

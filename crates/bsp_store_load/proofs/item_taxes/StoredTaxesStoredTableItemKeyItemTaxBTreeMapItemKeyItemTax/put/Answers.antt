@@ -1,5 +1,4 @@
-use Rattle.std.proofs.Common.{sym, ap, ◌∙◌}
-use Rattle.std.proofs.lemmas.Bool.{both_ways}
+use Rattle.std.proofs.Common.{ap, ◌∙◌, refl}
 use Rattle.std.specs.FinMap.{from_entries, get, insert}
 use Rattle.bsp_rows.specs.Rows.{item_cmp}
 use Rattle.bsp_rows.specs.declared.keys.ItemKey.{ItemKey}
@@ -7,9 +6,8 @@ use Rattle.bsp_store_base.specs.declared.taxes.ItemTax.{ItemTax}
 use Rattle.bsp_store_base.specs.Columns.{tax_row}
 use Rattle.bsp_store_items.specs.TaxReading.{item_tax_in}
 use Rattle.bsp_store_items.proofs.TaxBack.{item_tax_back}
-use Rattle.bsp_store_load.specs.Entries.{has_real}
 use Rattle.bsp_store_load.proofs.EntryLemmas.{none_there, put_told}
-use Rattle.bsp_store_load.proofs.RowReads.{not_none, own_is, own_row}
+use Rattle.bsp_store_load.proofs.RowReads.{not_none, own_is, not_refused}
 use Rattle.bsp_store_load.proofs.item_taxes.StoredTaxesStoredTableItemKeyItemTaxBTreeMapItemKeyItemTax.put.Goals as goal
 
 pub returns-in_default-clause-entry : goal.returns-in_default-clause-entry
@@ -18,9 +16,7 @@ returns-in_default-clause-entry c = λ e fits lacks is. absurd (not_none tax_row
 pub returns-then-not-is_row-clause-entry : goal.returns-then-not-is_row-clause-entry
 returns-then-not-is_row-clause-entry c = λ e fits lacks is.
     let some = c.read_item_tax.ensures ∙ ap item_tax_in is ∙ item_tax_back e fits in
-    let own = own_row tax_row c.args.row.now c.read_item_tax.result e some (c.in-Some.key, c.in-Some.tax) c.in-Some.is is in
-    let fine = c.is_row.ensures.whole (own ∙ sym c.of.ensures ∙ sym c.values.ensures) (ap has_real is) in
-    absurd (both_ways _ c.if-not-is_row.true fine)
+    absurd (not_refused tax_row c.args.row.now c.read_item_tax.result e some (c.in-Some.key, c.in-Some.tax) c.in-Some.is is c.values.result (c.values.ensures ∙ c.of.ensures) refl _ c.if-not-is_row.true c.is_row.ensures.whole)
 
 pub returns-clause-row : goal.returns-clause-row
 returns-clause-row c = λ done.

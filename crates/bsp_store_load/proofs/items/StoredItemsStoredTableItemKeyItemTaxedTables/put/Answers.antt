@@ -1,5 +1,5 @@
-use Rattle.std.proofs.Common.{◌≡◌, refl, sym, ap, subst, ◌∙◌}
-use Rattle.std.proofs.lemmas.Bool.{both_ways}
+use Rattle.std.proofs.Common.{◌≡◌, sym, ap, subst, ◌∙◌}
+use Rattle.bsp_maps.proofs.PickLemmas.{if_ok}
 use Rattle.std.specs.Prelude.{IfSome}
 use Rattle.std.specs.FinMap.{from_entries}
 use Rattle.bsp_rows.specs.Item.{Item}
@@ -8,10 +8,9 @@ use Rattle.bsp_rows.specs.declared.keys.ItemKey.{ItemKey}
 use Rattle.bsp_memory_rows.specs.Tables.{rows_of}
 use Rattle.bsp_store_base.specs.Columns.{item_row}
 use Rattle.bsp_store_load.specs.Beside.{IsAwaited, IsKeyed, Taxed, kept_tax}
-use Rattle.bsp_store_load.specs.Entries.{has_real}
 use Rattle.bsp_store_load.proofs.PlainRows.{plain_item}
-use Rattle.bsp_store_load.proofs.RowReads.{not_none, own_is, own_row}
-use Rattle.bsp_store_load.proofs.TaxedLemmas.{awaited, if_all, if_ok, is_stored, lacks_item, now_put, put_taxed}
+use Rattle.bsp_store_load.proofs.RowReads.{not_none, own_is, not_refused}
+use Rattle.bsp_store_load.proofs.TaxedLemmas.{awaited, if_all, is_stored, lacks_item, now_put, put_taxed}
 use Rattle.bsp_store_load.specs.declared.items.TaxedTables.{TaxedTables}
 use Rattle.bsp_store_load.proofs.items.StoredItemsStoredTableItemKeyItemTaxedTables.put.Goals as goal
 
@@ -21,9 +20,7 @@ returns-in_default-clause-entry c = λ e fits lacks is.
 
 pub returns-then-not-is_row-clause-entry : goal.returns-then-not-is_row-clause-entry
 returns-then-not-is_row-clause-entry c = λ e fits lacks is.
-    let own = own_row item_row c.args.row.now c.read.result e (c.read.ensures.entry e (is_stored _ _ e _ fits lacks) is) (c.in-Some.key, c.in-Some.item) c.in-Some.is is in
-    let fine = c.is_row.ensures.whole (own ∙ sym c.of.ensures ∙ sym c.values.ensures) (ap has_real is ∙ plain_item e) in
-    absurd (both_ways _ c.if-not-is_row.true fine)
+    absurd (not_refused item_row c.args.row.now c.read.result e (c.read.ensures.entry e (is_stored _ _ e _ fits lacks) is) (c.in-Some.key, c.in-Some.item) c.in-Some.is is c.values.result (c.values.ensures ∙ c.of.ensures) (plain_item e) _ c.if-not-is_row.true c.is_row.ensures.whole)
 
 pub put-requires : goal.put-requires
 put-requires c = subst (λ o. IfSome o IsKeyed) c.in-Some.is c.read.ensures.keyed
@@ -33,7 +30,7 @@ abbrev whole : TaxedTables → Taxed
 whole m = (rows_of m.tables, kept_tax (from_entries {R = item_cmp} m.taxes.entries) (rows_of m.tables).items)
 
 pub returns-clause-kept : goal.returns-clause-kept
-returns-clause-kept c = if_ok _ _ c.put.result c.put.ensures.kept (λ done same no. ap whole (same no))
+returns-clause-kept c = if_ok c.put.result (λ done same no. ap whole (same no)) c.put.ensures.kept
 
 pub returns-clause-row : goal.returns-clause-row
 returns-clause-row c =

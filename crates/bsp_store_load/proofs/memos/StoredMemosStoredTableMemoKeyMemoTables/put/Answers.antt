@@ -1,4 +1,4 @@
-use Rattle.std.proofs.Common.{rules, ◌≡◌, refl, sym, ap, subst, ◌∙◌}
+use Rattle.std.proofs.Common.{rules, ◌≡◌, refl, sym, ap, subst, ◌∙◌, true, Option, Some, None}
 use Rattle.std.proofs.lemmas.Bool.{both_ways}
 use Rattle.std.specs.FinMap.{get}
 use Rattle.sqlite.specs.Values.{bound}
@@ -7,13 +7,33 @@ use Rattle.bsp_rows.specs.Writes.{with_memo}
 use Rattle.bsp_rows.specs.declared.keys.MemoKey.{MemoKey}
 use Rattle.bsp_memory_rows.specs.Tables.{rows_of}
 use Rattle.bsp_store_base.specs.Columns.{memo_row}
-use Rattle.bsp_store_load.specs.Entries.{has_real}
-use Rattle.bsp_store_load.proofs.MemoReads.{memo_none, memo_same}
+use Rattle.bsp_store_load.specs.Loading.{has_real}
 use Rattle.bsp_store_load.proofs.PlainRows.{plain_memo}
 use Rattle.bsp_store_load.specs.Formed.{AreFormed, IsFormedMemo}
 use Rattle.bsp_store_load.proofs.FormedContent.{memo_formed}
 use Rattle.bsp_store_load.proofs.RowReads.{found_none, none_found}
+use Rattle.sqlite_value.specs.Order.{Row}
+use Rattle.bsp_rows.specs.Memos.{is_memo}
+use Rattle.bsp_rows.specs.MemoFields.{MemoFields}
+use Rattle.bsp_rows.proofs.MapLemmas.{same_Some}
+use Rattle.bsp_store_base.specs.Forms.{IsMemoEntry}
+use Rattle.bsp_store_rows.specs.MemoReading.{IsMemoIn}
+use Rattle.bsp_store_rows.proofs.MemoBack.{memo_seen}
 use Rattle.bsp_store_load.proofs.memos.StoredMemosStoredTableMemoKeyMemoTables.put.Goals as goal
+
+abbrev MayPut : MemoKey × MemoFields → Type 0
+MayPut e = IsMemoEntry e × (memo_key e.1 ≡ e.0) × (is_memo e.1 ≡ true)
+
+module _ (row : Row) (read : Option (MemoKey × MemoFields)) (e : MemoKey × MemoFields) (reads : IsMemoIn row read) (may : MayPut e) (is : row ≡ memo_row e) where
+  read_is : read ≡ Some e
+  read_is = memo_seen e.0 e.1 may.0 may.1 may.2 read (subst (λ r. IsMemoIn r read) is reads)
+
+  -- it does not read as nothing
+  memo_none : read ≡ None → ⊥
+  memo_none none = let some = read_is in cc (some, none)
+
+  memo_same : (key : MemoKey) (memo : MemoFields) → read ≡ Some (key, memo) → memo ≡ e.1
+  memo_same key memo some = ap (λ (p : MemoKey × MemoFields). p.1) (same_Some (key, memo) e (sym some ∙ read_is))
 
 pub returns-in_default-clause-entry : goal.returns-in_default-clause-entry
 returns-in_default-clause-entry c = λ e fits lacks is. absurd (memo_none c.args.row.now c.read_memo.result e c.read_memo.ensures fits is c.in_default.is)

@@ -1,5 +1,4 @@
-use Rattle.std.proofs.Common.{sym, ap, ◌∙◌}
-use Rattle.std.proofs.lemmas.Bool.{both_ways}
+use Rattle.std.proofs.Common.{ap, ◌∙◌, refl}
 use Rattle.std.specs.FinMap.{from_entries, get, insert}
 use Rattle.bsp_store_base.specs.Seconds.{ticket_cmp}
 use Rattle.bsp_store_base.specs.declared.tickets.TicketKey.{TicketKey}
@@ -7,9 +6,8 @@ use Rattle.bsp_rows.specs.ReportedDocument.{ReportedDocument}
 use Rattle.bsp_store_base.specs.Columns.{second_row}
 use Rattle.bsp_store_items.specs.TaxReading.{second_row_in}
 use Rattle.bsp_store_items.proofs.TaxBack.{second_back}
-use Rattle.bsp_store_load.specs.Entries.{has_real}
 use Rattle.bsp_store_load.proofs.EntryLemmas.{none_there, put_told}
-use Rattle.bsp_store_load.proofs.RowReads.{not_none, own_is, own_row}
+use Rattle.bsp_store_load.proofs.RowReads.{not_none, own_is, not_refused}
 use Rattle.bsp_store_load.proofs.seconds.StoredSecondsStoredTableTicketKeyReportedDocumentBTreeMapTicketKeyReportedDocument.put.Goals as goal
 
 pub returns-in_default-clause-entry : goal.returns-in_default-clause-entry
@@ -18,9 +16,7 @@ returns-in_default-clause-entry c = λ e fits lacks is. absurd (not_none second_
 pub returns-then-not-is_row-clause-entry : goal.returns-then-not-is_row-clause-entry
 returns-then-not-is_row-clause-entry c = λ e fits lacks is.
     let some = c.read_second.ensures ∙ ap second_row_in is ∙ second_back e fits.formed fits.checked in
-    let own = own_row second_row c.args.row.now c.read_second.result e some (c.in-Some.key, c.in-Some.document) c.in-Some.is is in
-    let fine = c.is_row.ensures.whole (own ∙ sym c.of.ensures ∙ sym c.values.ensures) (ap has_real is) in
-    absurd (both_ways _ c.if-not-is_row.true fine)
+    absurd (not_refused second_row c.args.row.now c.read_second.result e some (c.in-Some.key, c.in-Some.document) c.in-Some.is is c.values.result (c.values.ensures ∙ c.of.ensures) refl _ c.if-not-is_row.true c.is_row.ensures.whole)
 
 pub returns-clause-row : goal.returns-clause-row
 returns-clause-row c = λ done.
