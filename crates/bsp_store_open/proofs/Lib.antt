@@ -3,15 +3,10 @@ pub mod OrderLemmas
 pub mod LoadedLemmas
 pub mod Asking
 pub mod MetaLemmas
-pub mod EndLemmas
-pub mod FillingLemmas
 pub mod MigratingLemmas
 pub mod VersionLemmas
 pub mod OldBookLemmas
-pub mod Putting
 pub mod Running
-pub mod Texts
-pub mod Contents
 pub mod Versions
 pub mod Schemas
 pub use Rattle.bsp_store_load.proofs.FormedContent

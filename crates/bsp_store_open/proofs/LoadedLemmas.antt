@@ -1,5 +1,5 @@
 -- From one table to the next, as they are put into memory.
-use Rattle.std.proofs.Common.{◌≡◌, ℕ, List, Bool, true, false, Option, Some, None, is_some, refl, sym, ap, subst, ◌∙◌, IsPermutation, map, nat_cmp}
+use Rattle.std.proofs.Common.{◌≡◌, ℕ, List, Bool, true, false, Option, Some, None, is_some, refl, sym, ap, subst, subst₂, ◌∙◌, IsPermutation, map, nat_cmp}
 use Rattle.std.specs.List.{AllByRecursion}
 use Rattle.std.proofs.lemmas.Bool.{false≢true}
 use Rattle.std.proofs.lemmas.Option.{none-some}
@@ -28,13 +28,13 @@ use Rattle.bsp_store_load.proofs.Loaders.{Leaves, Loads, others, rows_here, whol
 use Rattle.bsp_store_load.proofs.SaleLoaders.{items_loader, memos_loader}
 use Rattle.bsp_store_load.proofs.TaxedLemmas.{LeavesTaxed, LoadsTaxed, all_are_left, none_is_left, plainly, still, were_taxes_of}
 use Rattle.bsp_store_load.proofs.TableLemmas.{items_right, memos_fit, memos_may}
-use Rattle.bsp_store_open.specs.Loaded.{AreBeside, AreCallersLoaded, AreItemsLoaded, AreRight, AreSalesLoaded, AreSecondsRead, AreTaxesRead, HasNoCallers, HasNoSales, IsAllLoaded, IsBeside, IsPlanned, NoFormed, NoRight}
+use Rattle.bsp_store_open.specs.Loaded.{AreCallersLoaded, AreItemsLoaded, AreRight, AreSalesLoaded, AreSecondsRead, AreTaxesRead, HasNoCallers, HasNoSales, IsAllLoaded, IsBeside, IsPlanned, KeepsNone, NoFormed, NoRight, OtherTallies}
 use Rattle.bsp_store_load.specs.Stored.{AreRowsOfPlan, IsFormedPlan}
 use Rattle.bsp_store_load.specs.Published.{Published}
 use Rattle.bsp_store_load.specs.SoundPlan.{IsSoundPlan}
 use Rattle.bsp_store_load.specs.declared.plan_rows.PlanRows.{PlanRows}
 use Rattle.bsp_store_load.proofs.TallyLemmas.{content_is}
-use Rattle.bsp_store_open.specs.Opening.{ArePlanRows, IsOfVersion, Reports, ShowsNoBook}
+use Rattle.bsp_store_open.specs.Opening.{ArePlanRows, IsDamage, IsOfVersion, Reports, ShowsNoBook}
 use Rattle.bsp_store_open.specs.declared.fault.OpenFault.{OpenFault}
 use Rattle.bsp_store_open.specs.declared.fault.OpenFault.TheVariants.{Damaged}
 use Rattle.bsp_store_open.proofs.OpeningLemmas.{not_other}
@@ -113,29 +113,7 @@ module _ (trees : Trees) (zero one : Rows) (none : HasNoSales zero) (taxes : Fin
       items_may taxes seconds (entries c.items) formed.items right.items
       (subst (λ m. AllByRecursion (IsJoined m seconds) (entries c.items)) (sym own_taxes) (subst (λ m. AllByRecursion (IsJoined (taxes_of c.items) m) (entries c.items)) (sym own_seconds) right.joined))
 
-  module _ (items : Loads (items_loader taxes seconds) trees zero one None) where
-    items_whole : (c : Content) → IsFormed c → AreRight c → KeepsRows form c trees → one ≡ record zero { items = c.items }
-    items_whole c formed right keeps = (whole_here (items_loader taxes seconds) trees zero one None items none.items c formed keeps (items_fit c formed right keeps)).1
-
-    pub items_loaded : AreBeside taxes seconds one.items → AreItemsLoaded trees zero one
-    items_loaded beside = record {
-      others = others (items_loader taxes seconds) trees zero one None items;
-      items = rows_here (items_loader taxes seconds) trees zero one None items none.items refl;
-      taxes = subst (IsPermutation _) (ap (λ m. map tax_row (entries m)) beside.taxes_are ∙ tax_rows one.items) read.rows;
-      seconds = subst (IsPermutation _) (ap (λ m. map second_row (entries m)) beside.seconds_are) documents.rows;
-      whole = items_whole;
-    }
-
-    -- maps that are not those of the items in memory
-    pub others_beside : (AreBeside taxes seconds one.items → ⊥) → NoRight trees
-    others_beside other c formed right keeps =
-        let same : c.items ≡ one.items = sym (ap (λ (r : Rows). r.items) (items_whole c formed right keeps)) in
-        other (record {
-          taxes_are = read.whole c formed keeps ∙ ap taxes_of (right.taxed ∙ same);
-          seconds_are = documents.whole c formed right keeps ∙ right.related ∙ ap seconds_of same;
-        })
-
-  pub no_items_loaded : Leaves (items_loader taxes seconds) trees zero one → NoRight trees
+  no_items_loaded : Leaves (items_loader taxes seconds) trees zero one → NoRight trees
   no_items_loaded items c formed right keeps = none-some _ (sym (whole_here (items_loader taxes seconds) trees zero one (Some items.0) items.1 none.items c formed keeps (items_fit c formed right keeps)).0)
 
   -- the same as the taxes are taken out of those that are left
@@ -150,11 +128,26 @@ module _ (trees : Trees) (zero one : Rows) (none : HasNoSales zero) (taxes : Fin
       plain : Loads (items_loader taxes seconds) trees zero one None
       plain = plainly taxes seconds trees (zero, kept_tax taxes zero.items) (one, kept_tax left one.items) None all_left loads
 
-      pub taxed_loaded : IsBeside left seconds one.items → AreItemsLoaded trees zero one
-      taxed_loaded beside = items_loaded plain (record { taxes_are = were_taxes_of taxes left one.items kept beside.none_left; seconds_are = beside.seconds_are })
+      items_whole : (c : Content) → IsFormed c → AreRight c → KeepsRows form c trees → one ≡ record zero { items = c.items }
+      items_whole c formed right keeps = (whole_here (items_loader taxes seconds) trees zero one None plain none.items c formed keeps (items_fit c formed right keeps)).1
 
+      pub taxed_loaded : IsBeside left seconds one.items → AreItemsLoaded trees zero one
+      taxed_loaded beside = record {
+        others = others (items_loader taxes seconds) trees zero one None plain;
+        items = rows_here (items_loader taxes seconds) trees zero one None plain none.items refl;
+        taxes = subst (IsPermutation _) (ap (λ m. map tax_row (entries m)) (were_taxes_of taxes left one.items kept beside.none_left) ∙ tax_rows one.items) read.rows;
+        seconds = subst (IsPermutation _) (ap (λ m. map second_row (entries m)) beside.seconds_are) documents.rows;
+        whole = items_whole;
+      }
+
+      -- maps that are not those of the items in memory
       pub others_left : (IsBeside left seconds one.items → ⊥) → NoRight trees
-      others_left other = others_beside plain (λ are. other (record { none_left = none_is_left taxes left one.items kept are.taxes_are; seconds_are = are.seconds_are }))
+      others_left other c formed right keeps =
+          let same : c.items ≡ one.items = sym (ap (λ (r : Rows). r.items) (items_whole c formed right keeps)) in
+          other (record {
+            none_left = none_is_left taxes left one.items kept (read.whole c formed keeps ∙ ap taxes_of (right.taxed ∙ same));
+            seconds_are = documents.whole c formed right keeps ∙ right.related ∙ ap seconds_of same;
+          })
 
     pub no_items_taxed : LeavesTaxed seconds trees (zero, kept_tax taxes zero.items) (one, kept_tax left one.items) → NoRight trees
     no_items_taxed row = no_items_loaded (row.0, plainly taxes seconds trees (zero, kept_tax taxes zero.items) (one, kept_tax left one.items) (Some row.0) all_left row.1)
@@ -185,6 +178,19 @@ module _ (trees : Trees) (zero one two : Rows) (none : HasNoSales zero) (items :
   pub no_memos_loaded : Leaves memos_loader trees one two → NoRight trees
   no_memos_loaded memos c formed right keeps = none-some _ (sym (whole_here memos_loader trees one two (Some memos.0) memos.1 no_memos c formed keeps (memos_may (entries c.memos) formed.memos right.memos)).0)
 
+-- ---- the plan
+
+-- rows of the plan's tables are those of the plan of a book that the trees keep
+plan_rows_of : (trees : Trees) (stored : PlanRows) → ArePlanRows trees stored → (book : Rows) (c : Content) → IsContentOf book c → IsFormed c → KeepsRows form c trees → AreRowsOfPlan book.published book.airlines stored
+plan_rows_of trees stored are book c of formed keeps = record {
+  meta = are.meta.in_order c formed keeps ∙ ap meta_part.rows of.same;
+  terms = are.terms.in_order c formed keeps ∙ ap terms_part.rows of.same;
+  airlines = are.airlines.in_order c formed keeps ∙ ap airline_part.rows of.same;
+  rates = are.rates.in_order c formed keeps ∙ ap rate_part.rows of.same;
+  periods = are.periods.in_order c formed keeps ∙ ap period_part.rows of.same;
+  commission_taxes = are.commission_taxes.in_order c formed keeps ∙ ap commission_tax_part.rows of.same;
+}
+
 -- ---- all tables
 
 module _ (trees : Trees) (zero : Rows) (planned : IsPlanned trees zero) where
@@ -195,23 +201,26 @@ module _ (trees : Trees) (zero : Rows) (planned : IsPlanned trees zero) where
   }
 
   -- the trees keep no book
-  pub shows_none : (fault : OpenFault) → fault ≡ Damaged → ((book : Rows) (c : Content) → Sound book → IsContentOf book c → IsFormed c → KeepsRows form c trees → ⊥) → ShowsNoBook fault trees
-  shows_none fault damaged none = record {
-    none = none;
+  pub shows_none : (fault : OpenFault) → IsDamage KeepsNone fault trees → ShowsNoBook fault trees
+  shows_none fault damage = record {
+    none = damage.1;
     meta = planned.stored.meta.items;
     all = planned.are.meta.in_any_order;
-    reports = subst (λ f. Reports f planned.stored.meta.items) (sym damaged) (not_other planned.stored.meta.items planned.version);
+    reports = subst (λ f. Reports f planned.stored.meta.items) (sym damage.0) (not_other planned.stored.meta.items planned.version);
   }
 
-  module _ (one : Rows) (callers : AreCallersLoaded trees zero one) where
-    pub sales_none : HasNoSales one
+  module _ (agents ranges : Rows) (read : Loads agents_loader trees zero agents None × Loads ranges_loader trees agents ranges None) where
+    callers : AreCallersLoaded trees zero ranges
+    callers = callers_loaded trees zero agents ranges callers_none read.0 read.1
+
+    pub sales_none : HasNoSales ranges
     sales_none = record {
       items = ap (λ (r : Rows). r.items) callers.others ∙ ap (λ (r : Rows). r.items) planned.alone;
       memos = ap (λ (r : Rows). r.memos) callers.others ∙ ap (λ (r : Rows). r.memos) planned.alone;
     }
 
     module _ (book : Rows) (c : Content) (sound : Sound book) (of : IsContentOf book c) (formed : IsFormed c) (keeps : KeepsRows form c trees) where
-      pub right : AreRight c
+      right : AreRight c
       right =
           let own : IsFormed (content_with book c.tallies) = subst IsFormed of.same formed in
           let items = items_right book sound in
@@ -226,70 +235,50 @@ module _ (trees : Trees) (zero : Rows) (planned : IsPlanned trees zero) where
           subst AreRight (sym of.same) it
 
       plan_is : zero ≡ record no_rows { published = book.published; airlines = book.airlines }
-      plan_is = planned.only book.published book.airlines sound.plan (formed_plan book c of formed) (record {
-        meta = planned.are.meta.in_order c formed keeps ∙ ap meta_part.rows of.same;
-        terms = planned.are.terms.in_order c formed keeps ∙ ap terms_part.rows of.same;
-        airlines = planned.are.airlines.in_order c formed keeps ∙ ap airline_part.rows of.same;
-        rates = planned.are.rates.in_order c formed keeps ∙ ap rate_part.rows of.same;
-        periods = planned.are.periods.in_order c formed keeps ∙ ap period_part.rows of.same;
-        commission_taxes = planned.are.commission_taxes.in_order c formed keeps ∙ ap commission_tax_part.rows of.same;
-      })
+      plan_is = planned.only book.published book.airlines sound.plan (formed_plan book c of formed) (plan_rows_of trees planned.stored planned.are book c of formed keeps)
 
-      pub book_is : (two : Rows) → AreSalesLoaded trees one two → two ≡ book
+      pub book_is : (two : Rows) → AreSalesLoaded trees ranges two → two ≡ book
       book_is two sales =
           let with_callers : Rows → Rows = λ r. record r { agents = c.agents; ranges = c.ranges } in
           let with_sales : Rows → Rows = λ r. record r { items = c.items; memos = c.memos } in
           let rows_in : Content → Rows = λ d. record { published = book.published; agents = d.agents; airlines = book.airlines; ranges = d.ranges; items = d.items; memos = d.memos } in
           sales.whole c formed right keeps ∙ ap with_sales (callers.whole c formed keeps ∙ ap with_callers plan_is) ∙ ap rows_in of.same
 
-    module _ (tables : Tables) (sales : AreSalesLoaded trees one (rows_of tables)) where
+    -- the items or the memos are those of no book
+    pub none_kept : NoRight trees → KeepsNone trees
+    none_kept none book c sound of formed keeps = none c formed (right book c sound of formed keeps) keeps
+
+    module _ (items : Rows) (tables : Tables) (sold : (HasNoSales ranges → AreItemsLoaded trees ranges items) × Loads memos_loader trees items (rows_of tables) None) where
+      sales : AreSalesLoaded trees ranges (rows_of tables)
+      sales = sales_loaded trees ranges items (rows_of tables) sales_none (sold.0 sales_none) sold.1
+
       -- the rows are those of a book that the trees keep, and the content too
-      pub same_content : IsDerived tables → (book : Rows) (c : Content) → Sound book → IsContentOf book c → IsFormed c → KeepsRows form c trees → c ≡ content_now tables
-      same_content derived book c sound of formed keeps = content_of tables book c derived (book_is book c sound of formed keeps (rows_of tables) sales) of
-
-      same_plan : (rows_of tables).published ≡ zero.published
-      same_plan = ap (λ (r : Rows). r.published) sales.others ∙ ap (λ (r : Rows). r.published) callers.others
-
-      same_airlines : (rows_of tables).airlines ≡ zero.airlines
-      same_airlines = ap (λ (r : Rows). r.airlines) sales.others ∙ ap (λ (r : Rows). r.airlines) callers.others
+      pub other_sums : IsDerived tables → OtherTallies (content_now tables) trees → KeepsNone trees
+      other_sums derived other book c sound of formed keeps = other c formed keeps (content_of tables book c derived (book_is book c sound of formed keeps (rows_of tables) sales) of)
 
       plan_rows_are : AreRowsOfPlan (rows_of tables).published (rows_of tables).airlines planned.stored
       plan_rows_are =
-          subst (λ p. AreRowsOfPlan p (rows_of tables).airlines planned.stored) (sym same_plan)
-          (subst (λ m. AreRowsOfPlan zero.published m planned.stored) (sym same_airlines) planned.of)
+          let same_plan = ap (λ (r : Rows). r.published) sales.others ∙ ap (λ (r : Rows). r.published) callers.others in
+          let same_airlines = ap (λ (r : Rows). r.airlines) sales.others ∙ ap (λ (r : Rows). r.airlines) callers.others in
+          subst₂ (λ p m. AreRowsOfPlan p m planned.stored) (sym same_plan) (sym same_airlines) planned.of
 
       pub all_loaded : HasRows tally_part (content_now tables) trees × HasRows tally_tax_part (content_now tables) trees → IsAllLoaded trees tables
       all_loaded sums =
-          let are = plan_rows_are in
+          let plan = plan_rows_are in
+          let are = planned.are in
+          let meta : HasRows meta_part (content_now tables) trees = subst (IsPermutation _) plan.meta are.meta.in_any_order in
+          let terms : HasRows terms_part (content_now tables) trees = subst (IsPermutation _) plan.terms are.terms.in_any_order in
+          let airlines : HasRows airline_part (content_now tables) trees = subst (IsPermutation _) plan.airlines are.airlines.in_any_order in
+          let rates : HasRows rate_part (content_now tables) trees = subst (IsPermutation _) plan.rates are.rates.in_any_order in
+          let periods : HasRows period_part (content_now tables) trees = subst (IsPermutation _) plan.periods are.periods.in_any_order in
+          let published : HasRows commission_tax_part (content_now tables) trees = subst (IsPermutation _) plan.commission_taxes are.commission_taxes.in_any_order in
+          let agents_are : HasRows agent_part (content_now tables) trees = rw (ap (λ (r : Rows). r.agents) sales.others) callers.agents in
+          let ranges_are : HasRows stock_part (content_now tables) trees = rw (ap (λ (r : Rows). r.ranges) sales.others) callers.ranges in
           record {
-            rows = (
-              subst (IsPermutation _) are.meta planned.are.meta.in_any_order,
-              (
-                subst (IsPermutation _) are.terms planned.are.terms.in_any_order,
-                (
-                  subst (IsPermutation _) are.airlines planned.are.airlines.in_any_order,
-                  (
-                    subst (IsPermutation _) are.rates planned.are.rates.in_any_order,
-                    (
-                      subst (IsPermutation _) are.periods planned.are.periods.in_any_order,
-                      (
-                        subst (λ m. IsPermutation (map (columns_of (width_of agent_part.tree)) (trees agent_part.tree)) (map agents_loader.row_of (entries m))) (sym (ap (λ (r : Rows). r.agents) sales.others)) callers.agents,
-                        (
-                          subst (λ m. IsPermutation (map (columns_of (width_of stock_part.tree)) (trees stock_part.tree)) (map ranges_loader.row_of (entries m))) (sym (ap (λ (r : Rows). r.ranges) sales.others)) callers.ranges,
-                          (
-                            sales.items,
-                            (sales.memos, (sums.0, (subst (IsPermutation _) are.commission_taxes planned.are.commission_taxes.in_any_order, (sales.taxes, (sums.1, (sales.seconds, tt)))))),
-                          ),
-                        ),
-                      ),
-                    ),
-                  ),
-                ),
-              ),
-            );
+            rows = (meta, (terms, (airlines, (rates, (periods, (agents_are, (ranges_are, (sales.items, (sales.memos, (sums.0, (published, (sales.taxes, (sums.1, (sales.seconds, tt))))))))))))));
             only = λ book c sound of formed keeps. book_is book c sound of formed keeps (rows_of tables) sales;
             stored = planned.stored;
-            are = planned.are;
+            are = are;
             version = planned.version;
           }
 
@@ -310,14 +299,7 @@ still_loaded trees a b was derived same loaded =
 -- rows that are those of no plan
 pub no_plan : (trees : Trees) (stored : PlanRows) → ArePlanRows trees stored → IsOfVersion stored.meta.items → ((p : Published) (tokens : FinMap nat_cmp (List ℕ)) → IsSoundPlan p → IsFormedPlan p tokens → AreRowsOfPlan p tokens stored → ⊥) → ShowsNoBook Damaged trees
 no_plan trees stored are version none = record {
-  none = λ book c sound of formed keeps. none book.published book.airlines sound.plan (formed_plan book c of formed) (record {
-    meta = are.meta.in_order c formed keeps ∙ ap meta_part.rows of.same;
-    terms = are.terms.in_order c formed keeps ∙ ap terms_part.rows of.same;
-    airlines = are.airlines.in_order c formed keeps ∙ ap airline_part.rows of.same;
-    rates = are.rates.in_order c formed keeps ∙ ap rate_part.rows of.same;
-    periods = are.periods.in_order c formed keeps ∙ ap period_part.rows of.same;
-    commission_taxes = are.commission_taxes.in_order c formed keeps ∙ ap commission_tax_part.rows of.same;
-  });
+  none = λ book c sound of formed keeps. none book.published book.airlines sound.plan (formed_plan book c of formed) (plan_rows_of trees stored are book c of formed keeps);
   meta = stored.meta.items;
   all = are.meta.in_any_order;
   reports = not_other stored.meta.items version;

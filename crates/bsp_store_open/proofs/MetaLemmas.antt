@@ -1,5 +1,5 @@
 -- What a query for all rows of `meta` shows of the tables of an earlier version.
-use Rattle.std.proofs.Common.{◌≡◌, List, [], ◌∷◌, length, map, false, inl, inr, IsPermutation, Result, Ok, Err, IfErr, refl, sym, ap, subst, arith, ◌∙◌, ℕ}
+use Rattle.std.proofs.Common.{◌≡◌, List, [], ◌∷◌, length, map, false, inl, inr, IsPermutation, Result, Ok, Err, refl, sym, ap, subst, arith, ◌∙◌, ℕ}
 use Rattle.std.specs.List.{range_with_len}
 use Rattle.std.proofs.lemmas.List.Sorted.{IsPermutation-trans}
 use Rattle.sqlite_value.specs.declared.value.Value.TheVariants.{Null}
@@ -28,12 +28,12 @@ use Rattle.bsp_store_load.specs.Kept.{Spares, columns_of}
 use Rattle.bsp_store_load.specs.Columns.{Meta, meta_row, meta_rows}
 use Rattle.bsp_store_load.specs.Content.{Content, meta_part, width_of}
 use Rattle.bsp_store_load.specs.Contents.{IsContentOf}
-use Rattle.bsp_store_open.specs.Filled.{HasOldNumber, KeepsOldRows, with_number}
+use Rattle.bsp_store_open.specs.Filled.{KeepsOldRows, with_number}
 use Rattle.bsp_store_open.specs.Old.{old_number, old_schema}
 use Rattle.bsp_store_open.specs.declared.old_versions.OldVersion.{OldVersion}
 use Rattle.bsp_store_open.specs.declared.old_versions.OldVersion.TheVariants.{First, Second}
 use Rattle.bsp_store_open.specs.declared.fault.OpenFault.{OpenFault}
-use Rattle.bsp_store_open.specs.Migrating.{AreMetaOf, AreOldMeta, HasNoOldBook, HasNumber, IsNumbered}
+use Rattle.bsp_store_open.specs.Migrating.{AreMetaOf, HasNoOldBook, HasNumber, IsNumbered}
 use Rattle.bsp_store_open.specs.Opening.{Reports}
 
 -- ---- the text
@@ -60,6 +60,17 @@ meta_of version old new has rows shown =
     let is = same.0 ∙ sym all_is.0 ∙ command_is (understood our_schema all_text) shows.query shows.names shows.is in
     (shows.all old.now.trees rows ((reads_as all_text [] old new (old_schema version) has _ is same.1 same.2 rows shown).answer Null)).in_any_order
 
+-- ---- the number
+
+-- rows of `meta` that are those of a book of an earlier version have its number
+pub has_number : (version : OldVersion) (trees : Trees) (rows : Rows) (c : Content) → IsContentOf rows c → KeepsOldRows version c trees → (found : List Row) → AreMetaOf trees found → HasNumber (old_number version) found
+has_number version trees rows c content keeps found are =
+    let m : Meta = record { day = rows.published.day; closed = length rows.published.closed } in
+    let row : Row = with_number (old_number version) (meta_row m) in
+    let is : map (with_number (old_number version)) (meta_rows c.meta) ≡ row ∷ [] = ap (λ (d : Content). map (with_number (old_number version)) (meta_rows d.meta)) content.same in
+    let one : IsPermutation (row ∷ []) found = IsPermutation-trans _ _ _ (subst (λ l. IsPermutation l (map (columns_of (width_of meta_part.tree)) (trees meta_part.tree))) is keeps.0.rows) are in
+    record { row = row; more = []; first = one_permutation row found one; version = refl }
+
 -- ---- the call
 
 module _ {S : Type 0} (g : Ghosts S) (old new : Held S) (kept : Survives (state g old) (state g new) (CommitsShowing all_text [] (state g old))) (version : OldVersion) (has : old.schema ≡ old_schema version) where
@@ -72,43 +83,23 @@ module _ {S : Type 0} (g : Ghosts S) (old new : Held S) (kept : Survives (state 
     leaves = λ clean db may. elim (kept.crash clean db may) [ inl before ↦ before | inr made ↦ absurd (never_commits all_text [] (state g old) db plain made) ];
   }
 
-  pub meta_read : (rows : List Row) → (HasCleanDisk (state g new) → Shown all_text [] (state g old) (state g new) rows) → AreOldMeta g old new rows
-  meta_read rows shown =
-      let same = λ (clean : HasCleanDisk (state g new)). unchanged_by all_text [] (state g old) (state g new) rows plain (shown clean) in
-      record {
-        read = record { earlier = λ clean. omega (arith, kept.clean); same = λ clean. (same clean).0.now_is; is_open = λ clean. (same clean).0.is_open };
-        was_open = λ clean. (same clean).0.was_open;
-        all = λ clean. meta_of version (state g old) (state g new) has rows (shown clean);
-      }
+  module _ (rows : List Row) (shown : HasCleanDisk (state g new) → Shown all_text [] (state g old) (state g new) rows) where
+    all_meta : HasCleanDisk (state g new) → AreMetaOf (state g old).now.trees rows
+    all_meta clean = meta_of version (state g old) (state g new) has rows (shown clean)
 
--- ---- the number
+    pub numbered : HasNumber (old_number version) rows → IsNumbered g version old new
+    numbered is =
+        let same = λ (clean : HasCleanDisk (state g new)). unchanged_by all_text [] (state g old) (state g new) rows plain (shown clean) in
+        record {
+          read = record { earlier = λ clean. omega (arith, kept.clean); same = λ clean. (same clean).0.now_is; is_open = λ clean. (same clean).0.is_open };
+          was_open = λ clean. (same clean).0.was_open;
+          number = λ clean. record { row = is.row; more = is.more; shown = subst (AreMetaOf (state g old).now.trees) is.first (all_meta clean); number = is.version };
+        }
 
--- rows of `meta` that are those of a book of an earlier version have its number
-pub has_number : (version : OldVersion) (trees : Trees) (rows : Rows) (c : Content) → IsContentOf rows c → KeepsOldRows version c trees → (found : List Row) → AreMetaOf trees found → HasNumber (old_number version) found
-has_number version trees rows c content keeps found are =
-    let m : Meta = record { day = rows.published.day; closed = length rows.published.closed } in
-    let row : Row = with_number (old_number version) (meta_row m) in
-    let is : map (with_number (old_number version)) (meta_rows c.meta) ≡ row ∷ [] = ap (λ (d : Content). map (with_number (old_number version)) (meta_rows d.meta)) content.same in
-    let one : IsPermutation (row ∷ []) found = IsPermutation-trans _ _ _ (subst (λ l. IsPermutation l (map (columns_of (width_of meta_part.tree)) (trees meta_part.tree))) is keeps.0.rows) are in
-    record { row = row; more = []; first = one_permutation row found one; version = refl }
-
-old_number_of : (version : OldVersion) (trees : Trees) (rows : List Row) → AreMetaOf trees rows → HasNumber (old_number version) rows → HasOldNumber version trees
-old_number_of version trees rows are has = record { row = has.row; more = has.more; shown = subst (AreMetaOf trees) has.first are; number = has.version }
-
-module _ {S : Type 0} (g : Ghosts S) (old new : Held S) (version : OldVersion) (rows : List Row) (meta : AreOldMeta g old new rows) where
-  pub numbered : HasNumber (old_number version) rows → IsNumbered g version old new
-  numbered has = record { read = meta.read; was_open = meta.was_open; number = λ clean. old_number_of version (state g old).now.trees rows (meta.all clean) has }
-
-  pub not_numbered : (fault : OpenFault) → ¬ HasNumber (old_number version) rows → Reports fault rows → HasNoOldBook g version fault old new
-  not_numbered fault none reports clean = record {
-    none = λ book c sound content formed of keeps. none (has_number version (state g old).now.trees book c content keeps rows (meta.all clean));
-    meta = rows;
-    all = meta.all clean;
-    reports = reports;
-  }
-
--- ---- two facts of one error
-
-pub both_err : {X E : Type 0} (P Q R : E → Type 0) (r : Result X E) → IfErr r P → IfErr r Q → ((e : E) → P e → Q e → R e) → IfErr r R
-both_err P Q R (Ok x) p q so = tt
-both_err P Q R (Err e) p q so = so e p q
+    pub not_numbered : (fault : OpenFault) → ¬ HasNumber (old_number version) rows → Reports fault rows → HasNoOldBook g version fault old new
+    not_numbered fault none reports clean = record {
+      none = λ book c sound content formed of keeps. none (has_number version (state g old).now.trees book c content keeps rows (all_meta clean));
+      meta = rows;
+      all = all_meta clean;
+      reports = reports;
+    }

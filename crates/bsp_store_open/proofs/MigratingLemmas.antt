@@ -1,32 +1,116 @@
--- A whole migration, from its steps.
-use Rattle.std.proofs.Common.{◌≡◌, ◌∙◌, inl, inr, ◌∷◌, IsTrue, None, pos, true, refl, sym, ap, subst}
+-- A whole migration, from its steps: the ends of the transaction, the tables that were filled and read, and the commit.
+use Rattle.std.proofs.Common.{◌≡◌, ◌∙◌, ℕ, [], codes, inl, inr, Ok, Option, Some, None, sym, ap, arith, subst, ◌∷◌, IsTrue, pos, true, refl}
+use Rattle.sqlite_trees.specs.Tree.{Trees}
+use Rattle.sqlite_trees.specs.declared.store.Store.{Ghosts}
+use Rattle.sqlite_schema.specs.declared.command.Command.{Command}
+use Rattle.sqlite_schema.specs.declared.command.Command.TheVariants.{Commit}
+use Rattle.sqlite_schema.specs.declared.command.Returning.{Returning}
+use Rattle.sqlite.specs.Clock.{timed}
+use Rattle.sqlite.specs.Does.{Does, Tally}
+use Rattle.sqlite.specs.Effect.{Database, IsDatabase}
+use Rattle.sqlite.specs.Held.{Held, state}
+use Rattle.sqlite.specs.State.{CommitsBy, Executes, HasCleanDisk, MayCommit, State, Survives, mode_of, text_of}
+use Rattle.sqlite.proofs.Callers.{command_of}
+use Rattle.bsp_store_base.proofs.Ending.{begin_commits_nothing, begins, commits}
+use Rattle.bsp_store_base.proofs.Ends.{ends_any}
+use Rattle.bsp_store_load.specs.Kept.{Spares, KeepsRows, AreTreesOf, KeepsSound}
+use Rattle.bsp_store_open.specs.Migrating.{HasBegun, HasEnded, MayEnd, IsFilledWith, KeepsNoOld, KeepsOnlyOld, HasNoOldBook, IsMigrated, IsNumbered, IsOld, KeepsOldBook, LeavesMigration}
+use Rattle.bsp_book.specs.Rows.{Rows}
+use Rattle.bsp_book.specs.Sound.{Sound}
+use Rattle.bsp_store_load.specs.Content.{Content, form}
+use Rattle.bsp_store_load.specs.Contents.{IsContentOf, content_now}
+use Rattle.bsp_store_load.specs.MemoryRowsTables.{rows_of}
+use Rattle.bsp_store_load.specs.Schema.{our_schema}
+use Rattle.bsp_store_load.specs.Tables.{Tables}
+use Rattle.bsp_store_load.proofs.FormedContent.{formed_content}
+use Rattle.bsp_store_open.specs.Filled.{Fills, HasOldNumber, IsTied, AreInOldOrder, IsBegun, KeepsOldRows}
+use Rattle.bsp_store_open.specs.declared.old_versions.OldVersion.{OldVersion}
+use Rattle.bsp_store_open.specs.Loaded.{IsAllLoaded, KeepsNone}
+use Rattle.bsp_store_open.specs.Opening.{Finds, AreOrdered, IsOfOther, KeepsAtRest, Reports, is_known}
+use Rattle.bsp_store_open.proofs.OpeningLemmas.{keeps_all}
 use Rattle.std.proofs.lemmas.Bool.{true≢false}
 use Rattle.sqlite_value.specs.Order.{Row, column}
 use Rattle.sqlite_value.specs.declared.value.Value.TheVariants.{Int}
-use Rattle.sqlite_trees.specs.Tree.{Trees}
-use Rattle.sqlite_trees.specs.declared.store.Store.{Ghosts}
-use Rattle.sqlite.specs.Effect.{Database, IsDatabase}
-use Rattle.sqlite.specs.Held.{Held, state}
-use Rattle.sqlite.specs.State.{HasCleanDisk}
-use Rattle.bsp_book.specs.Rows.{Rows}
-use Rattle.bsp_book.specs.Sound.{Sound}
 use Rattle.bsp_book.specs.Listed.{Holds as ListHolds}
 use Rattle.bsp_book.specs.declared.list.ListBook.{ListBook}
 use Rattle.bsp_store_load.specs.Columns.{count}
-use Rattle.bsp_store_load.specs.Content.{Content, form}
-use Rattle.bsp_store_load.specs.Contents.{IsContentOf}
 use Rattle.bsp_store_load.specs.Formed.{AreFormed, IsBook}
-use Rattle.bsp_store_load.specs.Kept.{AreTreesOf, KeepsSound, Spares}
-use Rattle.bsp_store_load.specs.Schema.{our_schema}
 use Rattle.bsp_store_load.proofs.Held.{trees_of}
-use Rattle.bsp_store_open.specs.Filled.{AreInOldOrder, HasOldNumber, IsBegun, KeepsOldRows}
 use Rattle.bsp_store_open.specs.Old.{old_number}
-use Rattle.bsp_store_open.specs.declared.old_versions.OldVersion.{OldVersion}
 use Rattle.bsp_store_open.specs.declared.old_versions.OldVersion.TheVariants.{First, Second}
-use Rattle.bsp_store_open.specs.Opening.{AreOrdered, IsOfOther, KeepsAtRest, Reports, is_known}
 use Rattle.bsp_store_open.specs.declared.fault.OpenFault.{OpenFault}
 use Rattle.bsp_store_open.specs.declared.fault.OpenFault.TheVariants.{Damaged}
-use Rattle.bsp_store_open.specs.Migrating.{HasBegun, HasEnded, HasNoOldBook, IsFilledWith, IsMigrated, IsNumbered, IsOld, KeepsNoOld, KeepsOldBook, KeepsOnlyOld, LeavesMigration, MayEnd}
+
+-- COMMIT commits what the transaction sees, or nothing
+commit_commits : (s : State) (db : Trees) → CommitsBy (codes "COMMIT") [] s db → db ≡ s.now.trees
+unfolding CommitsBy
+commit_commits s db (c, it, may) = go may
+  where
+    known : c.command ≡ Commit
+    known = ap command_of (sym it.is) ∙ (ends_any s.now.schema).1.0
+
+    does : (k : Command) (o : Option Returning) (out : Tally × Database) → k ≡ Commit → Does s.step_limit (mode_of s) (timed [] c.formats it.now) s.now (text_of (codes "COMMIT") c) o k (Ok out) → ⊥
+    does k None out is h = let no = rw is at h in absurd (cc)
+    does k (Some what) out is h = let no = rw is at h in absurd (cc)
+
+    go : MayCommit s c.returning c.command (text_of (codes "COMMIT") c) (timed [] c.formats it.now) db → db ≡ s.now.trees
+    go (inl commit) = commit.1
+    go (inr (outside, tally, after, made, sound, same, frozen)) = absurd (does c.command c.returning (tally, after) known made)
+
+module _ {S : Type 0} (g : Ghosts S) (old new : Held S) where
+  pub begin_spares : Survives (state g old) (state g new) (CommitsBy (codes "BEGIN") [] (state g old)) → Spares g old new
+  begin_spares kept = record {
+    earlier = λ clean. omega (arith, kept.clean);
+    leaves = λ clean db may. elim (kept.crash clean db may) [ inl before ↦ before | inr made ↦ absurd (begin_commits_nothing (state g old) db made) ];
+  }
+
+  pub has_begun : (count : ℕ) → Survives (state g old) (state g new) (CommitsBy (codes "BEGIN") [] (state g old)) → (HasCleanDisk (state g new) → Executes (codes "BEGIN") [] (state g old) (state g new) (Ok count)) → HasBegun g old new
+  has_begun count kept ran = record { earlier = λ clean. omega (arith, kept.clean); shown = λ clean. begins (state g old) (state g new) count (ran clean) }
+
+  pub may_end : Survives (state g old) (state g new) (CommitsBy (codes "COMMIT") [] (state g old)) → MayEnd g old new
+  may_end kept = record {
+    earlier = λ clean. omega (arith, kept.clean);
+    leaves = λ clean db may. elim (kept.crash clean db may) [ inl before ↦ inl before | inr made ↦ inr (commit_commits (state g old) db made) ];
+  }
+
+  pub has_ended : (count : ℕ) → Survives (state g old) (state g new) (CommitsBy (codes "COMMIT") [] (state g old)) → (HasCleanDisk (state g new) → Executes (codes "COMMIT") [] (state g old) (state g new) (Ok count)) → HasEnded g old new
+  has_ended count kept ran = record { earlier = λ clean. omega (arith, kept.clean); shown = λ clean. commits (state g old) (state g new) count (ran clean) }
+
+-- ---- the transaction
+
+-- the content of rows has the same items and tallies in each of its tables
+tied : (rows : Rows) (c : Content) → IsContentOf rows c → IsTied c
+tied rows c content = record {
+  items = ap (λ (d : Content). d.item_taxes) content.same ∙ sym (ap (λ (d : Content). d.items) content.same);
+  tallies = ap (λ (d : Content). d.tally_taxes) content.same;
+}
+
+module _ {S : Type 0} (g : Ghosts S) (version : OldVersion) (old mid new : Held S) (begun : Spares g old mid) (read : Spares g mid new) (fills : HasCleanDisk (state g mid) → Fills version (state g old) (state g mid)) where
+  pub filled_with : (number : HasCleanDisk (state g old) → HasOldNumber version (state g old).now.trees) (tables : Tables) → Finds g mid new (λ trees. IsAllLoaded trees tables) → IsFilledWith g version old new (content_now tables)
+  filled_with number tables finds =
+      let c : Content = content_now tables in
+      let at = λ (clean : HasCleanDisk (state g new)). fills (read.earlier clean) in
+      let keeps = λ (clean : HasCleanDisk (state g new)). keeps_all c (state g mid).now.trees (at clean).filled.ordered (finds.found clean).rows in
+      record {
+        earlier = λ clean. begun.earlier (read.earlier clean);
+        listed = λ clean. subst IsDatabase (sym (finds.read.same clean)) (at clean).sound;
+        schema = λ clean. ap (λ (d : Database). d.schema) (finds.read.same clean) ∙ (at clean).schema;
+        keeps = λ clean. subst (λ (d : Database). KeepsRows form c d.trees) (sym (finds.read.same clean)) (keeps clean);
+        of = λ clean. (at clean).filled.untaxed c (keeps clean);
+        kept = λ clean. (at clean).filled.back c (keeps clean) (number (begun.earlier (read.earlier clean)));
+      }
+
+  -- rows that the old tables kept were filled, and what was read is all that the filled tables keep
+  pub only_old : (tables : Tables) → Finds g mid new (λ trees. IsAllLoaded trees tables) → HasCleanDisk (state g new) → KeepsOnlyOld version (rows_of tables) (state g old).now.trees
+  only_old tables finds clean other sound formed kept =
+      let c = kept.0 in
+      let keeps = (fills (read.earlier clean)).filled.forward c (tied other c kept.1) kept.2 kept.3 in
+      sym ((finds.found clean).only other c sound kept.1 (formed_content other c formed kept.1) keeps)
+
+  pub no_old : (HasCleanDisk (state g new) → (state g mid).now.schema ≡ our_schema → KeepsNone (state g mid).now.trees) → HasCleanDisk (state g new) → KeepsNoOld version (state g old).now.trees
+  no_old none clean rows c sound content formed of keeps =
+      let at = fills (read.earlier clean) in
+      none clean at.schema rows c sound content formed (at.filled.forward c (tied rows c content) of keeps)
 
 module _ {S : Type 0} (g : Ghosts S) where
   -- what leaves to a stop no more than there was

@@ -1,6 +1,6 @@
 -- From the rows that an opening read to what the tables keep.
-use Rattle.std.proofs.Common.{◌≡◌, ◌⊎◌, ℕ, List, [], ◌∷◌, length, map, None, false, Result, Ok, Err, IfOk, OnOk, IsTrue, IsPermutation, inl, inr, refl, sym, ap, subst, ◌∙◌, arith}
-use Rattle.std.specs.Prelude.{pos, IfErr, IsErr, IsErrAnd, IsOkAnd, MatchResult, is_ok, true}
+use Rattle.std.proofs.Common.{◌≡◌, ◌⊎◌, ℕ, List, [], ◌∷◌, length, map, None, Result, Ok, Err, IfOk, OnOk, IsTrue, IsPermutation, inl, inr, refl, sym, ap, subst, ◌∙◌, arith}
+use Rattle.std.specs.Prelude.{pos, IfErr, IsErrAnd, MatchResult, true}
 use Rattle.std.proofs.lemmas.Bool.{false≢true, true≢false}
 use Rattle.std.specs.List.{AllByRecursion}
 use Rattle.std.proofs.lemmas.List.Sorted.{IsPermutation-sym}
@@ -11,7 +11,7 @@ use Rattle.sqlite_trees.specs.View.{IsClean, IsQuiet, is_int}
 use Rattle.sqlite_trees.specs.declared.store.Store.{Ghosts}
 use Rattle.sqlite.specs.Effect.{Database}
 use Rattle.sqlite.specs.Held.{Held, state}
-use Rattle.sqlite.specs.State.{HasCleanDisk, IsLive}
+use Rattle.sqlite.specs.State.{HasCleanDisk}
 use Rattle.sqlite.specs.declared.error.Error.{Error as StoreError}
 use Rattle.bsp_book.specs.Rows.{Rows}
 use Rattle.bsp_book.specs.Sound.{Sound}
@@ -21,12 +21,11 @@ use Rattle.bsp_book.specs.Listed.{Holds as ListHolds}
 use Rattle.bsp_book.specs.declared.list.ListBook.{ListBook}
 use Rattle.bsp_store_base.specs.Order.{AreInOrder, IsInOrder}
 use Rattle.bsp_store_load.specs.Schema.{our_schema}
-use Rattle.bsp_store_load.specs.Kept.{AreTreesOf, Keeps, KeepsRows, KeepsTable, Part, Reads, Spares, columns_of}
+use Rattle.bsp_store_load.specs.Kept.{AreTreesOf, Keeps, KeepsRows, KeepsSound, KeepsTable, Part, Spares, columns_of}
 use Rattle.bsp_store_load.specs.Columns.{Meta, count, meta_row, meta_rows, version}
 use Rattle.bsp_store_load.specs.Content.{Content, form, meta_part, width_of}
-use Rattle.bsp_store_load.specs.Contents.{IsContentOf, KeepsBook, content_now}
+use Rattle.bsp_store_load.specs.Contents.{IsContentOf, content_now}
 use Rattle.bsp_store_load.specs.Formed.{AreFormed}
-use Rattle.bsp_store_load.specs.Forms.{IsFormed}
 use Rattle.bsp_store_load.specs.Loading.{HasRows}
 use Rattle.bsp_store_load.specs.Shows.{AreAllOf}
 use Rattle.bsp_store_load.specs.Stored.{AreCommitted}
@@ -34,7 +33,7 @@ use Rattle.bsp_store_open.specs.Faults.{IsFaultOf, is_refusal}
 use Rattle.bsp_store_open.specs.declared.fault.OpenFault.{OpenFault}
 use Rattle.bsp_store_open.specs.declared.fault.OpenFault.TheVariants.{Damaged, NoRoom}
 use Rattle.bsp_store_open.specs.Loaded.{IsAllLoaded}
-use Rattle.bsp_store_open.specs.Opening.{Finds, HasNoBook, IsAtRest, IsNoBook, IsOfOther, IsOfVersion, IsOrdered, IsRead, KeepsAtRest, LeavesCommitted, Misses, Reopens, Reports, SparesStore, is_known}
+use Rattle.bsp_store_open.specs.Opening.{Finds, IsAtRest, IsOfOther, IsOfVersion, IsOrdered, IsRead, IsReading, IsTableRead, LeavesCommitted, Misses, Reopens, Reports, ShowsNoBook, SparesStore, is_known}
 use Rattle.bsp_store_load.proofs.FormedContent.{formed_content}
 use Rattle.bsp_store_load.proofs.Held.{trees_of}
 use Rattle.bsp_store_load.proofs.TallyLemmas.{content_is}
@@ -51,11 +50,6 @@ pub no_refusal : {X : Type 0} (Q : OpenFault → Type 0) (r : Result X OpenFault
 no_refusal Q (Ok x) error is = tt
 no_refusal Q (Err f) error is = λ refused. absurd (false≢true (sym is.refuses ∙ refused))
 
--- an error has no value
-pub none_done : {X E : Type 0} (P : Type 0) (r : Result X E) → IsErr r → OnOk r P
-none_done P (Ok x) is = absurd (true≢false (sym is))
-none_done P (Err e) is = tt
-
 pub on_ok : {X E : Type 0} (P Q : Type 0) (r : Result X E) → OnOk r P → (P → Q) → OnOk r Q
 on_ok P Q (Ok x) it so = so it
 on_ok P Q (Err e) it so = tt
@@ -69,50 +63,7 @@ pub if_read : {X E : Type 0} (P Q : X → Type 0) (r : Result X E) → IfOk r P 
 if_read P Q (Ok x) it so = so x it
 if_read P Q (Err e) it so = tt
 
-pub on_both : {X E : Type 0} (P Q : Type 0) (r : Result X E) → OnOk r P → OnOk r Q → OnOk r (P × Q)
-on_both P Q (Ok x) p q = (p, q)
-on_both P Q (Err e) p q = tt
-
-pub if_both : {X E : Type 0} (P Q : E → Type 0) (r : Result X E) → IfErr r P → IfErr r Q → IfErr r (λ e. P e × Q e)
-if_both P Q (Ok x) p q = tt
-if_both P Q (Err e) p q = (p, q)
-
--- a value that is given unless a test found a fault
-module _ {U V E : Type 0} (x : V) where
-  pub given_ok : (test : Result U E) (r : Result V E) → MatchResult test (λ u. r ≡ Ok x) (λ e. r ≡ Err e) → (P : V → Type 0) → OnOk test (P x) → IfOk r P
-  given_ok (Ok u) r is P it = subst (λ q. IfOk q P) (sym is) it
-  given_ok (Err e) r is P it = subst (λ q. IfOk q P) (sym is) tt
-
-  pub given_err : (test : Result U E) (r : Result V E) → MatchResult test (λ u. r ≡ Ok x) (λ e. r ≡ Err e) → (Q : E → Type 0) → IfErr test Q → IfErr r Q
-  given_err (Ok u) r is Q it = subst (λ q. IfErr q Q) (sym is) tt
-  given_err (Err e) r is Q it = subst (λ q. IfErr q Q) (sym is) it
-
-  -- what is made of the value where it is given, or the fault
-  pub over_given : {W : Type 0} (test : Result U E) (r : Result V E) (made : Result W E) → MatchResult test (λ u. r ≡ Ok x) (λ e. r ≡ Err e) → (A : W → Type 0) → MatchResult r (λ y. y ≡ x → IsOkAnd made A) (λ e. made ≡ Err e) → MatchResult test (λ u. IsOkAnd made A) (λ e. made ≡ Err e)
-  over_given (Ok u) (Ok y) made is A so = let same : y ≡ x = cc is in so same
-  over_given (Ok u) (Err e) made is A so = absurd (false≢true (ap is_ok is))
-  over_given (Err e) (Ok y) made is A so = absurd (true≢false (ap is_ok is))
-  over_given (Err e) (Err f) made is A so = let same : f ≡ e = cc is in subst (λ q. made ≡ Err q) same so
-
--- one that is made of it there
-module _ {U V E : Type 0} (A : V → Type 0) where
-  pub made_ok : (test : Result U E) (r : Result V E) → MatchResult test (λ u. IsOkAnd r A) (λ e. r ≡ Err e) → (F : Type 0) → OnOk test F → (P : V → Type 0) → ((x : V) → A x → F → P x) → IfOk r P
-  made_ok (Ok u) (Ok x) is F it P so = so x is it
-  made_ok (Ok u) (Err e) is F it P so = tt
-  made_ok (Err e) r is F it P so = subst (λ q. IfOk q P) (sym is) tt
-
-  pub made_err : (test : Result U E) (r : Result V E) → MatchResult test (λ u. IsOkAnd r A) (λ e. r ≡ Err e) → (Q : E → Type 0) → IfErr test Q → IfErr r Q
-  made_err (Ok u) (Ok x) is Q it = tt
-  made_err (Ok u) (Err e) is Q it = absurd is
-  made_err (Err e) r is Q it = subst (λ q. IfErr q Q) (sym is) it
-
 module _ {S : Type 0} (g : Ghosts S) where
-  pub asked : (old new : Held S) (part : Part Content) (rows : List Row) → old.schema ≡ our_schema → Reads g old new
-      → (HasCleanDisk (state g new) → IsPermutation (map (columns_of (width_of part.tree)) ((state g old).now.trees part.tree)) rows)
-      → (HasCleanDisk (state g new) → (c : Content) → IsFormed c → KeepsRows form c (state g old).now.trees → rows ≡ part.rows c)
-      → Finds g old new (λ trees. AreAllOf part trees rows)
-  asked old new part rows ours read any_order in_order = record { ours = ours; read = read; found = λ clean. record { in_any_order = any_order clean; in_order = in_order clean } }
-
   -- what does nothing leaves what there was
   pub spares_itself : (h : Held S) → Spares g h h
   spares_itself h = record { earlier = λ clean. clean; leaves = λ clean db may. may }
@@ -123,25 +74,12 @@ module _ {S : Type 0} (g : Ghosts S) where
     leaves = λ clean db may. first.leaves (second.earlier clean) db (second.leaves clean db may);
   }
 
-  -- other tables are no book's
-  pub other_tables : (fault : OpenFault) (old new : Held S) → ¬ (old.schema ≡ our_schema) → HasNoBook g fault old new
-  other_tables fault old new other clean ours = absurd (other ours)
-
-  -- the same tables were no book's before a query
-  pub no_book_before : {fault : OpenFault} → (a b c : Held S) (F : Trees → Type 0) → Finds g a b F → Spares g b c → HasNoBook g fault b c → HasNoBook g fault a c
-  no_book_before {fault} a b c F finds spares none clean =
-      let was_clean = spares.earlier clean in
-      subst (IsNoBook fault) (finds.read.same was_clean) (none clean)
-
   -- the tables are as they were when something was found of them
   pub missed_after : (a b c : Held S) (F P : Trees → Type 0) → Finds g a b F → Spares g b c → Misses g b c P → Misses g a c (λ trees. F trees × P trees)
   missed_after a b c F P finds spares misses clean ours =
       let was_clean = spares.earlier clean in
       let same = finds.read.same was_clean in
       (finds.found was_clean, subst (λ (db : Database). P db.trees) same (misses clean (ap (λ (db : Database). db.schema) same ∙ ours)))
-
-  pub misses_more : (a b : Held S) (P Q : Trees → Type 0) → Misses g a b P → ((trees : Trees) → P trees → Q trees) → Misses g a b Q
-  misses_more a b P Q misses so clean ours = so _ (misses clean ours)
 
   -- what is found of the same tables one after the other
   pub both : (a b c : Held S) (F G : Trees → Type 0) → Finds g a b F → Finds g b c G → Finds g a c (λ trees. F trees × G trees)
@@ -158,20 +96,84 @@ module _ {S : Type 0} (g : Ghosts S) where
   pub weaker : (a b : Held S) (F G : Trees → Type 0) → ((trees : Trees) → F trees → G trees) → Finds g a b F → Finds g a b G
   weaker a b F G so finds = record { ours = finds.ours; read = finds.read; found = λ clean. so _ (finds.found clean) }
 
+-- ---- one call after another
+
+module _ {S X : Type 0} {g : Ghosts S} {a b : Held S} where
+  -- a call for one table is such a call
+  pub of_table : {r : Result X OpenFault} {H : X → Type 0} {F : X → Trees → Type 0} → IsTableRead g a b r H F → IsReading g a b r H F (λ _ _. ⊥)
+  of_table {r = Ok x} it = record { holds = it.holds; found = it.found; refused = tt; spares = it.spares }
+  of_table {r = Err e} it = record { holds = tt; found = tt; refused = λ refused clean ours. absurd ((it.refused refused).1 ours); spares = it.spares }
+
+  module _ {H : X → Type 0} {F : X → Trees → Type 0} where
+    -- tables are refused that are not a book's
+    pub no_tables : {e : OpenFault} {r : Result X OpenFault} → IsErrAnd r (λ f. f ≡ e) → (e ≡ Damaged) × ¬ (a.schema ≡ our_schema) → Spares g a b → IsTableRead g a b r H F
+    no_tables {r = Ok x} is none spares = absurd is
+    no_tables {r = Err f} is none spares = record { holds = tt; found = tt; refused = λ refused. (is ∙ none.0, none.1); spares = spares }
+
+    -- an error of the store is no refusal
+    pub fails : {r : Result X OpenFault} (error : StoreError) → IsErrAnd r (λ f. IsFaultOf error f) → Spares g a b → IsTableRead g a b r H F
+    fails {r = Ok x} error is spares = absurd is
+    fails {r = Err f} error is spares = record { holds = tt; found = tt; refused = λ refused. absurd (false≢true (sym is.refuses ∙ refused)); spares = spares }
+
+module _ {S X Y : Type 0} {g : Ghosts S} {a b : Held S} {H : Y → Type 0} {K : X → Type 0} {F : Y → Trees → Type 0} {G : X → Trees → Type 0} {M N : OpenFault → Trees → Type 0} where
+  -- where a call is refused, so is the call that it is part of
+  pub stops : {e : OpenFault} {r : Result X OpenFault} → IsErrAnd r (λ f. f ≡ e) → IsReading g a b (Err e) H F M → ((fault : OpenFault) (trees : Trees) → M fault trees → N fault trees) → IsReading g a b r K G N
+  stops {r = Ok x} is it missed = absurd is
+  stops {e = e} {r = Err f} is it missed = record {
+    holds = tt;
+    found = tt;
+    refused = subst (λ fault. is_refusal fault ≡ true → Misses g a b (N fault)) (sym is) (λ refused clean ours. missed e _ (it.refused refused clean ours));
+    spares = it.spares;
+  }
+
+  -- a value is given for what was found
+  pub gives : {y : Y} {x : X} → IsReading g a b (Ok y) H F M → (H y → K x) → ((trees : Trees) → F y trees → G x trees) → IsReading g a b (Ok x) K G N
+  gives {y = y} {x = x} it holds found = record { holds = holds it.holds; found = weaker g a b (F y) (G x) found it.found; refused = tt; spares = it.spares }
+
+  -- or the tables are refused for it
+  pub denies : {y : Y} {r : Result X OpenFault} (e : OpenFault) → IsErrAnd r (λ f. f ≡ e) → IsReading g a b (Ok y) H F M → (is_refusal e ≡ true → (trees : Trees) → F y trees → N e trees) → IsReading g a b r K G N
+  denies {r = Ok x} e is it missed = absurd is
+  denies {r = Err f} e is it missed = record {
+    holds = tt;
+    found = tt;
+    refused = subst (λ fault. is_refusal fault ≡ true → Misses g a b (N fault)) (sym is) (λ refused clean ours. missed refused _ (it.found.found clean));
+    spares = it.spares;
+  }
+
+  -- what two calls find, one after the other
+  pub after : {c : Held S} {y : Y} {r : Result X OpenFault} → IsReading g a b (Ok y) H F M → IsReading g b c r K G N → IsReading g a c r (λ x. H y × K x) (λ x trees. F y trees × G x trees) (λ fault trees. F y trees × N fault trees)
+  after {c = c} {y = y} {r = Ok x} first second =
+      record { holds = (first.holds, second.holds); found = both g a b c (F y) (G x) first.found second.found; refused = tt; spares = spares_both g a b c first.spares second.spares }
+  after {c = c} {y = y} {r = Err e} first second =
+      record { holds = tt; found = tt; refused = λ refused. missed_after g a b c (F y) (N e) first.found second.spares (second.refused refused); spares = spares_both g a b c first.spares second.spares }
+
+-- what a call says is enough for the call that it is part of
+pub wider : {S X : Type 0} {g : Ghosts S} {a b : Held S} {H K : X → Type 0} {F G : X → Trees → Type 0} {M N : OpenFault → Trees → Type 0} {r : Result X OpenFault} → IsReading g a b r H F M
+    → ((x : X) → H x → K x) → ((x : X) (trees : Trees) → F x trees → G x trees) → ((fault : OpenFault) (trees : Trees) → M fault trees → N fault trees) → IsReading g a b r K G N
+wider {r = Ok x} it holds found missed = gives it (holds x) (found x)
+wider {r = Err e} it holds found missed = stops refl it missed
+
+-- a value is given unless a call found a fault
+pub given : {S X Y : Type 0} {g : Ghosts S} {a b : Held S} {H : Y → Type 0} {K : X → Type 0} {F : Y → Trees → Type 0} {G : X → Trees → Type 0} {M N : OpenFault → Trees → Type 0} (test : Result Y OpenFault) (r : Result X OpenFault) (x : X)
+    → MatchResult test (λ _. r ≡ Ok x) (λ fault. r ≡ Err fault) → IsReading g a b test H F M → ((y : Y) → H y → K x) → ((y : Y) (trees : Trees) → F y trees → G x trees)
+    → ((fault : OpenFault) (trees : Trees) → M fault trees → N fault trees) → IsReading g a b r K G N
+given (Ok y) r x is it holds found missed = rw is (gives it (holds y) (found y))
+given (Err e) r x is it holds found missed = rw is (stops refl it missed)
+
 -- rows that are refused, though there is memory, are not sound
 pub unsound_if_refused : (fault : OpenFault) (P : Type 0) → (fault ≡ NoRoom) ⊎ ((fault ≡ Damaged) × P) → is_refusal fault ≡ true → (fault ≡ Damaged) × P
 unsound_if_refused fault P (inl room) refused = absurd (false≢true (sym (ap is_refusal room) ∙ refused))
 unsound_if_refused fault P (inr unsound) refused = unsound
 
 -- a book's first row of `meta` has the version of its tables
-pub other_version : {S : Type 0} (g : Ghosts S) (fault : OpenFault) (old new : Held S) (read : List Row) → Finds g old new (λ trees. AreAllOf meta_part trees read) → (IsOfVersion read → ⊥) → Reports fault read → HasNoBook g fault old new
-other_version g fault old new read finds other reports clean ours = record {
+pub other_version : (trees : Trees) (fault : OpenFault) (read : List Row) → AreAllOf meta_part trees read → (IsOfVersion read → ⊥) → Reports fault read → ShowsNoBook fault trees
+other_version trees fault read all other reports = record {
   none = λ rows c sound content formed keeps.
       let m : Meta = record { day = rows.published.day; closed = length rows.published.closed } in
-      let is : read ≡ meta_row m ∷ [] = (finds.found clean).in_order c formed keeps ∙ ap (λ (d : Content). meta_rows d.meta) content.same in
+      let is : read ≡ meta_row m ∷ [] = all.in_order c formed keeps ∙ ap (λ (d : Content). meta_rows d.meta) content.same in
       other (record { row = meta_row m; more = []; first = is; version = refl });
   meta = read;
-  all = (finds.found clean).in_any_order;
+  all = all.in_any_order;
   reports = reports;
 }
 
@@ -197,49 +199,39 @@ keeps_each c trees (p ∷ parts) order rows = (keeps_table (width_of p.tree) (p.
 pub keeps_all : (c : Content) (trees : Trees) → AreInOrder trees → AllByRecursion (λ (p : Part Content). HasRows p c trees) form.parts → KeepsRows form c trees
 keeps_all c trees order rows = keeps_each c trees form.parts order rows
 
-module _ {S : Type 0} (g : Ghosts S) (old new : Held S) (order : IsOrdered g old) (c : Content) (finds : Finds g old new (λ trees. AllByRecursion (λ (p : Part Content). HasRows p c trees) form.parts))
-    (rows : Rows) (content : IsContentOf rows c) where
-  keeps_old : HasCleanDisk (state g new) → KeepsRows form c (state g old).now.trees
-  keeps_old clean = keeps_all c (state g old).now.trees (order (finds.read.earlier clean) finds.ours) (finds.found clean)
-
-  pub found_of : HasCleanDisk (state g new) → KeepsBook rows (state g old).now.trees
-  found_of clean = (c, content, keeps_old clean)
-
-  keeps_new : HasCleanDisk (state g new) → Keeps form c (state g new).now
-  keeps_new clean = subst (Keeps form c) (sym (finds.read.same clean)) (record { schema = finds.ours; kept = keeps_old clean })
-
-  -- no transaction is open, so the tables that are seen are committed, and a stop leaves them
-  pub at_rest : IsLive (state g new) → new.in_transaction ≡ false → (IsTrue (state g new).is_open → (state g new).now ≡ (state g new).committed)
-      → ((db : Trees) → IsTrue (state g new).is_open → (state g new).may_leave db → db ≡ (state g new).committed.trees) → KeepsAtRest g new rows
-  at_rest live outside settled leaves = (
-    c,
-    content,
-    (
-      record {
-        held = λ clean is. (keeps_new clean, (live is).0);
-        kept = λ clean is. (subst (Keeps form c) (settled is) (keeps_new clean), (live is).1);
-        leaves = λ clean db may.
-            let is = finds.read.is_open clean in
-            inl (subst (AreTreesOf form c) (sym (leaves db is may)) (trees_of form c (state g new).committed (subst (Keeps form c) (settled is) (keeps_new clean), (live is).1)));
-      },
-      λ clean. outside,
-    ),
-  )
-
 -- the tables have the rows of tables in memory, which become a book
 module _ {S : Type 0} (g : Ghosts S) (old new : Held S) (order : IsOrdered g old) (tables : Tables) (kept : AreCommitted tables) (finds : Finds g old new (λ trees. IsAllLoaded trees tables)) where
-  pub tables_read : (list : ListBook) (rows : Rows) → list.tables ≡ tables → ListHolds list (rows_of tables) None → rows_of tables ≡ rows → Sound rows → AreFormed (rows_of tables) → IsAtRest g new → ((db : Trees) → IsTrue (state g new).is_open → (state g new).may_leave db → db ≡ (state g new).committed.trees)
-      → IsRead g old new list rows
-  tables_read list rows same holds is sound formed rest leaves =
-      let content : IsContentOf rows (content_now tables) = subst (λ r. IsContentOf r (content_now tables)) is (content_is (rows_of tables) _ kept.derived.totals) in
-      let has = weaker g old new _ _ (λ trees loaded. loaded.rows) finds in
+  keeps_old : HasCleanDisk (state g new) → KeepsRows form (content_now tables) (state g old).now.trees
+  keeps_old clean = keeps_all (content_now tables) (state g old).now.trees (order (finds.read.earlier clean) finds.ours) (finds.found clean).rows
+
+  keeps_new : HasCleanDisk (state g new) → Keeps form (content_now tables) (state g new).now
+  keeps_new clean = subst (Keeps form (content_now tables)) (sym (finds.read.same clean)) (record { schema = finds.ours; kept = keeps_old clean })
+
+  -- no transaction is open, so the tables that are seen are committed, and a stop leaves them
+  pub tables_read : (list : ListBook) (rows : Rows) → ListHolds list (rows_of tables) None → rows_of tables ≡ rows → Sound rows → AreFormed (rows_of tables) → IsAtRest g new
+      → ((db : Trees) → IsTrue (state g new).is_open → (state g new).may_leave db → db ≡ (state g new).committed.trees) → IsRead g old new list rows
+  tables_read list rows holds is sound formed rest leaves =
+      let c = content_now tables in
+      let content : IsContentOf rows c = subst (λ r. IsContentOf r c) is (content_is (rows_of tables) _ kept.derived.totals) in
+      let committed : HasCleanDisk (state g new) → IsTrue (state g new).is_open → KeepsSound form c (state g new).committed = λ clean is. (subst (Keeps form c) (rest.settled is) (keeps_new clean), (rest.live is).1) in
       record {
         listed = subst (λ r. ListHolds list r None) is holds;
         sound = sound;
         formed = subst AreFormed is formed;
-        kept = at_rest g old new order (content_now tables) has rows content rest.live rest.outside rest.settled leaves;
-        earlier = has.read.earlier;
-        found = found_of g old new order (content_now tables) has rows content;
+        kept = (
+          c,
+          content,
+          (
+            record {
+              held = λ clean is. (keeps_new clean, (rest.live is).0);
+              kept = committed;
+              leaves = λ clean db may. let is = finds.read.is_open clean in inl (subst (AreTreesOf form c) (sym (leaves db is may)) (trees_of form c (state g new).committed (committed clean is)));
+            },
+            λ clean. rest.outside,
+          ),
+        );
+        earlier = finds.read.earlier;
+        found = λ clean. (c, content, keeps_old clean);
         only = λ clean other its formed_too kept_too. sym ((finds.found clean).only other kept_too.0 its kept_too.1 (formed_content other kept_too.0 formed_too kept_too.1) kept_too.2) ∙ is;
       }
 

@@ -1,35 +1,210 @@
--- What the tables kept before they were filled, and what they keep after.
-use Rattle.std.proofs.Common.{◌≡◌, ℕ, Bool, true, not, ◌&&◌, List, [], ◌∷◌, ◌++◌, drop, map, take, Ok, Err, Result, OnOk, refl, sym, subst, ◌∙◌}
-use Rattle.std.specs.Prelude.{◌==◌}
-use Rattle.std.specs.FinMap.{FinMap, entries}
+-- Tables whose rows were made of those of another one, and what the tables of a version kept before they were filled and keep
+-- after.
+use Rattle.std.proofs.Common.{◌≡◌, ℕ, ℤ, List, [], ◌∷◌, length, map, true, false, not, ◌&&◌, Option, Some, None, pos, refl, sym, ap, ap₂, ◌∙◌, subst, subst₂, drop, IsPermutation, Bool, ◌++◌, take, Ok, Err, Result, OnOk}
 use Rattle.std.specs.List.{AllByRecursion, list_all}
 use Rattle.std.proofs.lemmas.Bool.{and_parts}
-use Rattle.std.proofs.lemmas.List.Sorted.{IsPermutation-refl, length_permutation}
-use Rattle.sqlite_value.specs.Order.{Row}
+use Rattle.std.proofs.lemmas.List.Sorted.{IsPermutation-map, IsPermutation-sym, IsPermutation-trans, length_permutation, IsPermutation-refl}
+use Rattle.sqlite_value.specs.declared.value.Value.{Value}
+use Rattle.sqlite_value.specs.declared.value.Value.TheVariants.{Blob, Int, Null, Real, Text}
+use Rattle.sqlite_value.specs.Order.{Row, column}
 use Rattle.sqlite_trees.specs.Tree.{IsTable, Trees}
+use Rattle.sqlite_trees.proofs.ListLemmas.{all-map, all-permutation, all_from_map, all_of, all_weaker, map-map, all-append, all_both}
+use Rattle.sqlite_sql.specs.Ops.{is_null}
+use Rattle.sqlite_schema.specs.Rules.{are_present, are_typed, is_of, passes}
+use Rattle.sqlite_schema.specs.declared.schema.Kind.TheVariants.{Integer}
+use Rattle.sqlite_schema.specs.declared.schema.Table.{Table}
+use Rattle.sqlite_rules.specs.Cast.{cast}
+use Rattle.bsp_rows.specs.Item.{Item}
+use Rattle.bsp_rows.specs.Tally.{Tally}
+use Rattle.bsp_rows.specs.Days.{day_number}
+use Rattle.bsp_rows.specs.declared.keys.ItemKey.{ItemKey}
+use Rattle.bsp_rows.specs.declared.keys.TallyKey.{TallyKey}
+use Rattle.bsp_store_base.specs.Schema.{item_tax_table, meta_table, tally_tax_table, our_schema}
+use Rattle.bsp_store_base.specs.Columns.{Meta, agent_text, airline_text, count, flag, item_row, item_tax_row, meta_row, meta_rows, number_text, period_text, tally_row, tally_tax_row, placed}
+use Rattle.bsp_store_base.specs.Kept.{KeepsTable, columns_of, Part}
+use Rattle.bsp_store_base.proofs.Alone.{alone}
+use Rattle.bsp_store_base.proofs.Values.{cast_int, cast_same}
+use Rattle.bsp_store_open.specs.Filled.{HasNoTax, IsUntaxed, with_number, AreInOldOrder, Begun, Fills, IsBegun, IsFilled, IsFilling}
+use Rattle.bsp_store_open.specs.Statements.{AreMade, At, Keyed, stored, untaxed_item, untaxed_tally, with_version, Goes, HasSeconds, HasTaxes, IsAdded, IsAt, is_tree}
+use Rattle.std.specs.Prelude.{◌==◌, IsErrAnd}
+use Rattle.std.specs.FinMap.{FinMap, entries}
 use Rattle.sqlite_trees.specs.declared.store.Store.{Ghosts}
-use Rattle.sqlite_trees.proofs.ListLemmas.{all-append, all_both}
-use Rattle.sqlite_schema.specs.Rules.{passes}
 use Rattle.sqlite_schema.specs.declared.schema.Constraint.TheVariants.{Datatype, NotNull}
 use Rattle.sqlite_catalog.specs.Listing.{IsSound}
 use Rattle.sqlite.specs.declared.error.Error.{Error}
 use Rattle.sqlite.specs.Held.{Held, state}
-use Rattle.sqlite.specs.State.{HasCleanDisk, KeepsCommit, State}
-use Rattle.bsp_rows.specs.Item.{Item}
-use Rattle.bsp_rows.specs.Tally.{Tally}
+use Rattle.sqlite.specs.State.{HasCleanDisk, State}
 use Rattle.bsp_rows.specs.Rows.{item_cmp}
 use Rattle.bsp_rows.specs.Tallies.{tally_cmp}
 use Rattle.bsp_store_base.specs.Order.{IsInOrder, table_trees}
-use Rattle.bsp_store_base.specs.Schema.{item_tax_table, meta_table, our_schema, tally_tax_table}
-use Rattle.bsp_store_base.specs.Columns.{item_tax_row, placed, tally_tax_row}
 use Rattle.bsp_store_base.specs.Content.{Content, form, width_of}
-use Rattle.bsp_store_base.specs.Kept.{KeepsTable, Part, Spares, columns_of}
-use Rattle.bsp_store_open.specs.Filled.{AreInOldOrder, Begun, Fills, HasNoTax, IsBegun, IsFilled, IsUntaxed}
 use Rattle.bsp_store_open.specs.Old.{old_schema}
-use Rattle.bsp_store_open.specs.Statements.{AreMade, At, Goes, HasSeconds, HasTaxes, IsAt, Keyed, is_tree, untaxed_item, untaxed_tally, with_version}
 use Rattle.bsp_store_open.specs.declared.old_versions.OldVersion.{OldVersion}
 use Rattle.bsp_store_open.specs.declared.old_versions.OldVersion.TheVariants.{First, Second}
-use Rattle.bsp_store_open.proofs.Contents.{AreInts, are_ints, items_taxed, items_untaxed, meta_back, meta_forward, tallies_taxed, tallies_untaxed}
+
+same_each : {A B : Type 0} (f g : A → B) (xs : List A) → AllByRecursion (λ a. f a ≡ g a) xs → map f xs ≡ map g xs
+same_each f g [] all = refl
+same_each f g (x ∷ xs) all = ap₂ ◌∷◌ all.0 (same_each f g xs all.1)
+
+-- a row is made of the columns of another one
+module _ (table : Table) (made : Row → Row) (width : ℕ) (see : Row → Row) (sees : (r : Row) → see (columns_of width r) ≡ stored table (made r)) where
+  seen : (from : List Row) → map see (map (columns_of width) from) ≡ map (λ r. stored table (made r)) from
+  seen from = map-map see (columns_of width) from ∙ same_each (λ r. see (columns_of width r)) (λ r. stored table (made r)) from (all_of _ sees from)
+
+  -- what the first table keeps shows what the second one does
+  pub made_keeps : {A : Type 0} (row_of next : A → Row) (xs : List A) → AllByRecursion (λ a. see (row_of a) ≡ next a) xs → (from into : List Row) → KeepsTable width (map row_of xs) from → AreMade table made from into
+      → KeepsTable (length table.columns) (map next xs) into
+  made_keeps row_of next xs each from into keeps m = record {
+    table = m.rising;
+    keyed = m.keyed;
+    rows = IsPermutation-trans _ _ _ (subst₂ IsPermutation (map-map see row_of xs ∙ same_each (λ a. see (row_of a)) next xs each) (seen from) (IsPermutation-map see _ _ keeps.rows)) m.rows;
+  }
+
+  -- what holds of each row that was made holds of each that the table keeps
+  pub made_of_each : {A : Type 0} (next : A → Row) (xs : List A) (P : Row → Type 0) → ((r : Row) → P (stored table (made r))) → (from into : List Row) → KeepsTable (length table.columns) (map next xs) into
+      → AreMade table made from into → AllByRecursion (λ a. P (next a)) xs
+  made_of_each next xs P holds from into keeps m =
+      let all : AllByRecursion P (map (λ r. stored table (made r)) from) = all-map P (λ r. stored table (made r)) from (all_of _ holds from) in
+      all_from_map P next xs (all-permutation P _ _ (IsPermutation-sym _ _ keeps.rows) (all-permutation P _ _ m.rows all))
+
+-- ---- a tax of 0
+
+abbrev see_item : Row → Row
+see_item r = stored item_tax_table (column r 0 ∷ column r 1 ∷ column r 2 ∷ Int (pos 0) ∷ Int (pos 0) ∷ [])
+
+abbrev see_tally : Row → Row
+see_tally r = stored tally_tax_table (column r 0 ∷ column r 1 ∷ column r 2 ∷ Int (pos 0) ∷ [])
+
+item_seen : (e : ItemKey × Item) → IsUntaxed e → see_item (item_row e) ≡ item_tax_row e
+item_seen e none =
+    ap (λ vs. columns_of 5 (cast Integer Null ∷ vs))
+    (cast_same item_tax_table.columns (agent_text e.0.agent ∷ number_text e.0.number ∷ flag e.0.is_canx ∷ Int (pos 0) ∷ Int (pos 0) ∷ []) (refl, (refl, (cast_int _, (cast_int (pos 0), (cast_int (pos 0), tt))))))
+    ∙ ap₂ (λ tax hundredths. agent_text e.0.agent ∷ number_text e.0.number ∷ flag e.0.is_canx ∷ Int tax ∷ count hundredths ∷ []) (sym none.0) (sym none.1)
+
+tally_seen : (e : TallyKey × Tally) → HasNoTax e → see_tally (tally_row e) ≡ tally_tax_row e
+tally_seen e none =
+    ap (λ vs. columns_of 4 (cast Integer Null ∷ vs))
+    (cast_same tally_tax_table.columns (agent_text e.0.agent ∷ airline_text e.0.airline ∷ period_text e.0.period ∷ Int (pos 0) ∷ []) (refl, (refl, (refl, (cast_int (pos 0), tt)))))
+    ∙ ap (λ tax. agent_text e.0.agent ∷ airline_text e.0.airline ∷ period_text e.0.period ∷ Int tax ∷ []) (sym none)
+
+pub items_taxed : (entries : List (ItemKey × Item)) → AllByRecursion IsUntaxed entries → (from into : List Row) → KeepsTable 19 (map item_row entries) from → AreMade item_tax_table untaxed_item from into
+    → KeepsTable 5 (map item_tax_row entries) into
+items_taxed entries none from into keeps m =
+    made_keeps item_tax_table untaxed_item 19 see_item (λ r. refl) item_row item_tax_row entries (all_weaker IsUntaxed (λ e. see_item (item_row e) ≡ item_tax_row e) item_seen entries none) from into keeps m
+
+pub tallies_taxed : (entries : List (TallyKey × Tally)) → AllByRecursion HasNoTax entries → (from into : List Row) → KeepsTable 11 (map tally_row entries) from → AreMade tally_tax_table untaxed_tally from into
+    → KeepsTable 4 (map tally_tax_row entries) into
+tallies_taxed entries none from into keeps m =
+    made_keeps tally_tax_table untaxed_tally 11 see_tally (λ r. refl) tally_row tally_tax_row entries (all_weaker HasNoTax (λ e. see_tally (tally_row e) ≡ tally_tax_row e) tally_seen entries none) from into keeps m
+
+-- the columns at these places are 0
+abbrev AreZero : ℕ → ℕ → Row → Type 0
+AreZero i j r = (column r i ≡ Int (pos 0)) × (column r j ≡ Int (pos 0))
+
+pub items_untaxed : (entries : List (ItemKey × Item)) (from into : List Row) → KeepsTable 5 (map item_tax_row entries) into → AreMade item_tax_table untaxed_item from into → AllByRecursion IsUntaxed entries
+items_untaxed entries from into keeps m =
+    all_weaker (λ e. AreZero 3 4 (item_tax_row e)) IsUntaxed zero entries
+    (made_of_each item_tax_table untaxed_item 19 see_item (λ r. refl) item_tax_row entries (AreZero 3 4) (λ r. (cast_int (pos 0), cast_int (pos 0))) from into keeps m)
+  where
+    zero : (e : ItemKey × Item) → AreZero 3 4 (item_tax_row e) → IsUntaxed e
+    zero e is = let tax : Int e.1.tax ≡ Int (pos 0) = is.0 in let hundredths : Int (pos e.1.hundredths) ≡ Int (pos 0) = is.1 in (cc, cc)
+
+pub tallies_untaxed : (entries : List (TallyKey × Tally)) (from into : List Row) → KeepsTable 4 (map tally_tax_row entries) into → AreMade tally_tax_table untaxed_tally from into → AllByRecursion HasNoTax entries
+tallies_untaxed entries from into keeps m =
+    all_weaker (λ e. AreZero 3 3 (tally_tax_row e)) HasNoTax zero entries
+    (made_of_each tally_tax_table untaxed_tally 11 see_tally (λ r. refl) tally_tax_row entries (AreZero 3 3) (λ r. (cast_int (pos 0), cast_int (pos 0))) from into keeps m)
+  where
+    zero : (e : TallyKey × Tally) → AreZero 3 3 (tally_tax_row e) → HasNoTax e
+    zero e is = let tax : Int e.1.tax ≡ Int (pos 0) = is.0 in cc
+
+-- ---- the version in `meta`
+
+abbrev see_meta : Row → Row
+see_meta r = stored meta_table (column r 0 ∷ count 3 ∷ column r 2 ∷ column r 3 ∷ [])
+
+-- four integers
+pub record AreInts (r : Row) : Type 0 where
+  pub id : ℤ
+  pub number : ℤ
+  pub day : ℤ
+  pub closed : ℤ
+  pub is : r ≡ Int id ∷ Int number ∷ Int day ∷ Int closed ∷ []
+
+ints_seen : (id number day closed : ℤ) → see_meta (Int id ∷ Int number ∷ Int day ∷ Int closed ∷ []) ≡ Int id ∷ count 3 ∷ Int day ∷ Int closed ∷ []
+ints_seen id number day closed =
+    ap (λ vs. columns_of 4 (cast Integer Null ∷ vs)) (cast_same meta_table.columns (Int id ∷ count 3 ∷ Int day ∷ Int closed ∷ []) (cast_int id, (cast_int (pos 3), (cast_int day, (cast_int closed, tt)))))
+
+meta_seen : (number : ℕ) (m : Option Meta) → AllByRecursion (λ r. see_meta (with_number number r) ≡ r) (meta_rows m)
+meta_seen number None = tt
+meta_seen number (Some meta) = (ints_seen (pos 1) (pos number) (day_number meta.day) (pos meta.closed), tt)
+
+map-same : {A : Type 0} (xs : List A) → map (λ x. x) xs ≡ xs
+map-same [] = refl
+map-same (x ∷ xs) = ap (λ l. x ∷ l) (map-same xs)
+
+pub meta_forward : (number : ℕ) (m : Option Meta) (from into : List Row) → KeepsTable 4 (map (with_number number) (meta_rows m)) from → AreMade meta_table with_version from into → KeepsTable 4 (meta_rows m) into
+meta_forward number m from into keeps made =
+    subst (λ l. KeepsTable 4 l into) (map-same (meta_rows m)) (made_keeps meta_table with_version 4 see_meta (λ r. refl) (with_number number) (λ r. r) (meta_rows m) (meta_seen number m) from into keeps made)
+
+no_more : (f : Row → Row) (more : List Row) → map f more ≡ [] → more ≡ []
+no_more f [] none = refl
+no_more f (r ∷ more) none = absurd (cc none)
+
+pub meta_back : (number : ℕ) (m : Option Meta) (from into : List Row) → IsTable from → Keyed from → AllByRecursion (λ r. AreInts (columns_of 4 r)) from → (row : Row) (more : List Row)
+    → IsPermutation (map (columns_of 4) from) (row ∷ more) → column row 1 ≡ count number → KeepsTable 4 (meta_rows m) into → AreMade meta_table with_version from into
+    → KeepsTable 4 (map (with_number number) (meta_rows m)) from
+meta_back number m from into rising keyed ints row more shown has keeps made =
+    record { table = rising; keyed = keyed; rows = subst (λ l. IsPermutation l (map (columns_of 4) from)) (rows_are m kept) (IsPermutation-sym _ _ shown) }
+  where
+    kept : IsPermutation (meta_rows m) (see_meta row ∷ map see_meta more)
+    kept = IsPermutation-trans _ _ _ (IsPermutation-trans _ _ _ keeps.rows (IsPermutation-sym _ _ made.rows))
+        (subst (λ l. IsPermutation l (see_meta row ∷ map see_meta more)) (seen meta_table with_version 4 see_meta (λ r. refl) from) (IsPermutation-map see_meta _ _ shown))
+
+    is_ints : AreInts row
+    is_ints = (all-permutation AreInts _ _ shown (all-map AreInts (columns_of 4) from ints)).0
+
+    rows_are : (m : Option Meta) → IsPermutation (meta_rows m) (see_meta row ∷ map see_meta more) → row ∷ more ≡ map (with_number number) (meta_rows m)
+    rows_are None same = absurd (cc (length_permutation _ _ same))
+    rows_are (Some meta) same =
+        let one : see_meta row ∷ map see_meta more ≡ meta_row meta ∷ [] = alone (meta_row meta) (see_meta row ∷ map see_meta more) same in
+        let none : map see_meta more ≡ [] = cc in
+        let only : more ≡ [] = no_more see_meta more none in
+        let first : see_meta row ≡ meta_row meta = cc in
+        let made : Int is_ints.id ∷ count 3 ∷ Int is_ints.day ∷ Int is_ints.closed ∷ [] ≡ meta_row meta = sym (ap see_meta is_ints.is ∙ ints_seen is_ints.id is_ints.number is_ints.day is_ints.closed) ∙ first in
+        let named : Int is_ints.number ≡ count number = sym (ap (λ r. column r 1) is_ints.is) ∙ has in
+        let is : row ≡ Int is_ints.id ∷ Int is_ints.number ∷ Int is_ints.day ∷ Int is_ints.closed ∷ [] = is_ints.is in
+        let same_row : row ≡ with_number number (meta_row meta) = cc in
+        ap₂ ◌∷◌ same_row only
+
+int_there : (v : Value) → not (is_null v) ≡ true → is_of Integer v ≡ true → (n : ℤ) × (v ≡ Int n)
+int_there Null there typed = absurd (cc there)
+int_there (Int n) there typed = (n, refl)
+int_there (Real x) there typed = absurd (cc typed)
+int_there (Text t) there typed = absurd (cc typed)
+int_there (Blob b) there typed = absurd (cc typed)
+
+-- a row of `meta` that obeys the schema
+pub are_ints : (r : Row) → are_typed None 0 meta_table.columns (drop 1 r) ≡ true → are_present None 0 meta_table.columns r ≡ true → AreInts (columns_of 4 r)
+are_ints [] typed there = absurd (cc there)
+are_ints (x ∷ []) typed there = absurd (cc there)
+are_ints (x ∷ a ∷ []) typed there = let h : false ≡ true = (and_parts (not (is_null a)) false there).1 in absurd (cc h)
+are_ints (x ∷ a ∷ b ∷ []) typed there = let h : false ≡ true = (and_parts (not (is_null b)) false (and_parts (not (is_null a)) (not (is_null b) && false) there).1).1 in absurd (cc h)
+are_ints (x ∷ a ∷ b ∷ c ∷ []) typed there =
+    let h : false ≡ true = (and_parts (not (is_null c)) false (and_parts (not (is_null b)) (not (is_null c) && false) (and_parts (not (is_null a)) (not (is_null b) && (not (is_null c) && false)) there).1).1).1 in absurd (cc h)
+are_ints (x ∷ a ∷ b ∷ c ∷ d ∷ more) typed there =
+    let t1 = and_parts _ _ typed in
+    let t2 = and_parts _ _ t1.1 in
+    let t3 = and_parts _ _ t2.1 in
+    let t4 = and_parts _ _ t3.1 in
+    let p1 = and_parts _ _ there in
+    let p2 = and_parts _ _ p1.1 in
+    let p3 = and_parts _ _ p2.1 in
+    let p4 = and_parts _ _ p3.1 in
+    let i = int_there a p1.0 t1.0 in
+    let j = int_there b p2.0 t2.0 in
+    let k = int_there c p3.0 t3.0 in
+    let l = int_there d p4.0 t4.0 in
+    record { id = i.0; number = j.0; day = k.0; closed = l.0; is = ap₂ ◌∷◌ i.1 (ap₂ ◌∷◌ j.1 (ap₂ ◌∷◌ k.1 (ap (λ v. v ∷ []) l.1))) }
 
 -- ---- lists of tables
 
@@ -193,73 +368,58 @@ module _ (old mid new : Trees) (t : HasTaxes old mid) (s : HasSeconds mid new) (
 
 -- ---- the whole
 
+fills : (version : OldVersion) (old new : State) → At our_schema new → IsFilled version old.now.trees new.now.trees → new.committed ≡ old.committed → Fills version old new
+fills version old new at filled committed = record { schema = at.schema; filled = filled; inside = at.inside; is_open = at.is_open; sound = at.sound; committed = committed }
+
 as_second : (old new : State) → Begun Second old → Goes our_schema HasSeconds old new → Fills Second old new
-as_second old new begun after = record {
-  schema = after.at.schema;
-  filled = second_filled old.now.trees new.now.trees after.made (subst (λ s. IsSound s old.now.trees) begun.schema begun.sound) begun.ordered;
-  inside = after.at.inside;
-  is_open = after.at.is_open;
-  sound = after.at.sound;
-  committed = after.committed;
-}
+as_second old new begun after = fills Second old new after.at (second_filled old.now.trees new.now.trees after.made (subst (λ s. IsSound s old.now.trees) begun.schema begun.sound) begun.ordered) after.committed
 
 as_first : (old mid new : State) → Begun First old → Goes (old_schema Second) HasTaxes old mid → Goes our_schema HasSeconds mid new → Fills First old new
-as_first old mid new begun first second = record {
-  schema = second.at.schema;
-  filled = first_filled old.now.trees mid.now.trees new.now.trees first.made second.made (subst (λ s. IsSound s old.now.trees) begun.schema begun.sound) begun.ordered;
-  inside = second.at.inside;
-  is_open = second.at.is_open;
-  sound = second.at.sound;
-  committed = second.committed ∙ first.committed;
-}
+as_first old mid new begun first second =
+    let filled = first_filled old.now.trees mid.now.trees new.now.trees first.made second.made (subst (λ s. IsSound s old.now.trees) begun.schema begun.sound) begun.ordered in
+    fills First old new second.at filled (second.committed ∙ first.committed)
 
-at_begun : (version : OldVersion) (s : State) → Begun version s → At (old_schema version) s
-at_begun version s begun = record { schema = begun.schema; inside = begun.inside; is_open = begun.is_open; sound = begun.sound }
+at_begun : {S : Type 0} (g : Ghosts S) (version : OldVersion) (old : Held S) → IsBegun g version old → IsAt g (old_schema version) old
+at_begun g version old begun disk = let it = begun disk in record { schema = it.schema; inside = it.inside; is_open = it.is_open; sound = it.sound }
 
-pub fills_second : {S : Type 0} (g : Ghosts S) (version : OldVersion) (old new : Held S) (r : Result (Unit {0}) Error) → version ≡ Second → (IsAt g (old_schema Second) old → Spares g old new)
-    → OnOk r (IsAt g (old_schema Second) old → HasCleanDisk (state g new) → Goes our_schema HasSeconds (state g old) (state g new))
-    → OnOk r (IsBegun g version old → HasCleanDisk (state g new) → Fills version (state g old) (state g new))
-fills_second g version old new (Err e) is second seconds = tt
-fills_second g version old new (Ok u) is second seconds = λ begun disk.
-    let start : IsBegun g Second old = subst (λ v. IsBegun g v old) is begun in
-    let at : IsAt g (old_schema Second) old = λ disk. at_begun Second (state g old) (start disk) in
-    subst (λ v. Fills v (state g old) (state g new)) (sym is) (as_second (state g old) (state g new) (start ((second at).earlier disk)) (seconds at disk))
+module _ {S : Type 0} (g : Ghosts S) (old mid new : Held S) where
+  -- from version 2
+  pub second_fills : (r : Result (Unit {0}) Error) → IsAdded g (old_schema Second) our_schema HasSeconds old new r → IsFilling g Second old new r
+  second_fills r it = record { spares = λ begun. it.spares (at_begun g Second old begun); kept = λ begun. it.kept (at_begun g Second old begun); filled = filled r it.added }
+    where
+      filled : (r : Result (Unit {0}) Error) → OnOk r (IsAt g (old_schema Second) old → HasCleanDisk (state g new) → Goes our_schema HasSeconds (state g old) (state g new))
+          → OnOk r (IsBegun g Second old → HasCleanDisk (state g new) → Fills Second (state g old) (state g new))
+      filled (Err e) added = tt
+      filled (Ok u) added = λ begun disk.
+          let at = at_begun g Second old begun in
+          as_second (state g old) (state g new) (begun ((it.spares at).earlier disk)) (added at disk)
 
-pub fills_first : {S : Type 0} (g : Ghosts S) (version : OldVersion) (old mid new : Held S) (r : Result (Unit {0}) Error) → version ≡ First → (IsAt g (old_schema First) old → Spares g old mid)
-    → (IsAt g (old_schema First) old → HasCleanDisk (state g mid) → Goes (old_schema Second) HasTaxes (state g old) (state g mid)) → (IsAt g (old_schema Second) mid → Spares g mid new)
-    → OnOk r (IsAt g (old_schema Second) mid → HasCleanDisk (state g new) → Goes our_schema HasSeconds (state g mid) (state g new))
-    → OnOk r (IsBegun g version old → HasCleanDisk (state g new) → Fills version (state g old) (state g new))
-fills_first g version old mid new (Err e) is first taxes second seconds = tt
-fills_first g version old mid new (Ok u) is first taxes second seconds = λ begun disk.
-    let start : IsBegun g First old = subst (λ v. IsBegun g v old) is begun in
-    let at : IsAt g (old_schema First) old = λ disk. at_begun First (state g old) (start disk) in
-    let halfway : IsAt g (old_schema Second) mid = λ disk. (taxes at disk).at in
-    let mid_disk = (second halfway).earlier disk in
-    let old_disk = (first at).earlier mid_disk in
-    subst (λ v. Fills v (state g old) (state g new)) (sym is) (as_first (state g old) (state g mid) (state g new) (start old_disk) (taxes at mid_disk) (seconds halfway disk))
+  -- from version 1, where the first text failed
+  pub first_fails : (e : Error) (r : Result (Unit {0}) Error) → IsErrAnd r (λ f. f ≡ e) → IsAdded g (old_schema First) (old_schema Second) HasTaxes old new (Err e) → IsFilling g First old new r
+  first_fails e (Ok u) is it = absurd is
+  first_fails e (Err f) is it = record { spares = λ begun. it.spares (at_begun g First old begun); kept = λ begun. it.kept (at_begun g First old begun); filled = tt }
 
-pub begun_at : {S : Type 0} (g : Ghosts S) (version of : OldVersion) (old : Held S) → version ≡ of → IsBegun g version old → IsAt g (old_schema of) old
-begun_at g version of old is begun = λ disk. at_begun of (state g old) (subst (λ v. IsBegun g v old) is begun disk)
+  -- and where it did not
+  pub first_fills : (r : Result (Unit {0}) Error) → IsAdded g (old_schema First) (old_schema Second) HasTaxes old mid (Ok tt) → IsAdded g (old_schema Second) our_schema HasSeconds mid new r → IsFilling g First old new r
+  first_fills r taxes second = record {
+    spares = λ begun.
+        let a = taxes.spares (at_begun g First old begun) in
+        let b = second.spares (halfway begun) in
+        record { earlier = λ clean. a.earlier (b.earlier clean); leaves = λ clean db may. a.leaves (b.earlier clean) db (b.leaves clean db may) };
+    kept = λ begun disk.
+        let a = taxes.kept (at_begun g First old begun) ((second.spares (halfway begun)).earlier disk) in
+        let b = second.kept (halfway begun) disk in
+        record { was_open = λ is. a.was_open (b.was_open is); committed = λ is. b.committed is ∙ a.committed (b.was_open is) };
+    filled = filled r second.added;
+  }
+    where
+      halfway : IsBegun g First old → IsAt g (old_schema Second) mid
+      halfway begun disk = (taxes.added (at_begun g First old begun) disk).at
 
-module _ {S : Type 0} (g : Ghosts S) (version : OldVersion) (old mid new : Held S) (is : version ≡ First) (taxes : IsAt g (old_schema First) old → HasCleanDisk (state g mid) → Goes (old_schema Second) HasTaxes (state g old) (state g mid))
-    (second : IsAt g (old_schema Second) mid → Spares g mid new) (begun : IsBegun g version old) where
-  at_first : IsAt g (old_schema First) old
-  at_first = begun_at g version First old is begun
-
-  halfway : IsAt g (old_schema Second) mid
-  halfway disk = (taxes at_first disk).at
-
-  -- both steps leave to a stop no more than there was
-  pub spares_first : (IsAt g (old_schema First) old → Spares g old mid) → Spares g old new
-  spares_first first =
-      let a = first at_first in
-      let b = second halfway in
-      record { earlier = λ clean. a.earlier (b.earlier clean); leaves = λ clean db may. a.leaves (b.earlier clean) db (b.leaves clean db may) }
-
-  -- and both keep what was committed
-  pub keeps_first : (IsAt g (old_schema First) old → HasCleanDisk (state g mid) → KeepsCommit (state g old) (state g mid)) → (IsAt g (old_schema Second) mid → HasCleanDisk (state g new) → KeepsCommit (state g mid) (state g new))
-      → HasCleanDisk (state g new) → KeepsCommit (state g old) (state g new)
-  keeps_first one two disk =
-      let a = one at_first ((second halfway).earlier disk) in
-      let b = two halfway disk in
-      record { was_open = λ is. a.was_open (b.was_open is); committed = λ is. b.committed is ∙ a.committed (b.was_open is) }
+      filled : (r : Result (Unit {0}) Error) → OnOk r (IsAt g (old_schema Second) mid → HasCleanDisk (state g new) → Goes our_schema HasSeconds (state g mid) (state g new))
+          → OnOk r (IsBegun g First old → HasCleanDisk (state g new) → Fills First (state g old) (state g new))
+      filled (Err e) added = tt
+      filled (Ok u) added = λ begun disk.
+          let at = at_begun g First old begun in
+          let mid_disk = (second.spares (halfway begun)).earlier disk in
+          as_first (state g old) (state g mid) (state g new) (begun ((taxes.spares at).earlier mid_disk)) (taxes.added at mid_disk) (added (halfway begun) disk)

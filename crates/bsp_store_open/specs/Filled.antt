@@ -1,5 +1,5 @@
 -- What the tables of an older version keep of a content, and what filling them leaves.
-use Rattle.std.specs.Prelude.{◌≡◌, ℕ, ◌==◌, ◌-◌, true, not, pos, List, [], ◌∷◌, map, take, drop, refl, IsPermutation, IsTrue, ⊤}
+use Rattle.std.specs.Prelude.{◌≡◌, ℕ, ◌==◌, ◌-◌, true, not, pos, List, [], ◌∷◌, map, take, drop, refl, IsPermutation, IsTrue, OnOk, Result, ⊤}
 use Rattle.std.specs.FinMap.{entries}
 use Rattle.std.specs.List.{AllByRecursion, list_all}
 use Rattle.sqlite_value.specs.Order.{Row, column}
@@ -7,7 +7,8 @@ use Rattle.sqlite_trees.specs.Tree.{Trees}
 use Rattle.sqlite_trees.specs.declared.store.Store.{Ghosts}
 use Rattle.sqlite.specs.Effect.{IsDatabase}
 use Rattle.sqlite.specs.Held.{Held, state}
-use Rattle.sqlite.specs.State.{HasCleanDisk, State}
+use Rattle.sqlite.specs.State.{HasCleanDisk, KeepsCommit, State}
+use Rattle.sqlite.specs.declared.error.Error.{Error}
 use Rattle.bsp_rows.specs.Item.{Item}
 use Rattle.bsp_rows.specs.Tally.{Tally}
 use Rattle.bsp_rows.specs.declared.keys.ItemKey.{ItemKey}
@@ -16,7 +17,7 @@ use Rattle.bsp_store_base.specs.Order.{AreInOrder, IsInOrder}
 use Rattle.bsp_store_base.specs.Schema.{meta_table, our_schema}
 use Rattle.bsp_store_base.specs.Columns.{count}
 use Rattle.bsp_store_base.specs.Content.{Content, form, meta_part, width_of}
-use Rattle.bsp_store_base.specs.Kept.{Form, KeepsRows, Part, columns_of}
+use Rattle.bsp_store_base.specs.Kept.{Form, KeepsRows, Part, Spares, columns_of}
 use Rattle.bsp_store_open.specs.Old.{old_number, old_schema, old_tables, table_count}
 use Rattle.bsp_store_open.specs.declared.old_versions.OldVersion.{OldVersion}
 use Rattle.bsp_store_open.specs.declared.old_versions.OldVersion.TheVariants.{First, Second}
@@ -115,3 +116,9 @@ pub record Fills (version : OldVersion) (old new : State) : Type 0 where
   pub is_open : IsTrue new.is_open
   pub sound : IsDatabase new.now
   pub committed : new.committed ≡ old.committed
+
+-- whatever is answered, nothing is committed, and a stop leaves no more than there was
+pub record IsFilling {S : Type 0} (g : Ghosts S) (version : OldVersion) (old new : Held S) (result : Result (Unit {0}) Error) : Type 0 where
+  pub spares : IsBegun g version old → Spares g old new
+  pub kept : IsBegun g version old → HasCleanDisk (state g new) → KeepsCommit (state g old) (state g new)
+  pub filled : OnOk result (IsBegun g version old → HasCleanDisk (state g new) → Fills version (state g old) (state g new))

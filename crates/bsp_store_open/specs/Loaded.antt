@@ -88,11 +88,6 @@ pub record AreSecondsRead (trees : Trees) (seconds : FinMap ticket_cmp ReportedD
   pub rows : IsPermutation (map (columns_of (width_of second_part.tree)) (trees second_part.tree)) (map second_row (entries seconds))
   pub whole : (c : Content) → IsFormed c → AreRight c → KeepsRows form c trees → seconds ≡ c.seconds
 
--- the maps are those of items
-pub record AreBeside (taxes : FinMap item_cmp ItemTax) (seconds : FinMap ticket_cmp ReportedDocument) (items : FinMap item_cmp Item) : Type 0 where
-  pub taxes_are : taxes ≡ taxes_of items
-  pub seconds_are : seconds ≡ seconds_of items
-
 -- no tax is left that is none of the items in memory, and the second related documents are theirs
 pub record IsBeside (left : FinMap item_cmp ItemTax) (seconds : FinMap ticket_cmp ReportedDocument) (items : FinMap item_cmp Item) : Type 0 where
   pub none_left : left ≡ empty

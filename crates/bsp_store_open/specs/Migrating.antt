@@ -18,7 +18,7 @@ use Rattle.bsp_store_load.specs.Contents.{IsContentOf}
 use Rattle.bsp_store_load.specs.Formed.{AreFormed, IsBook}
 use Rattle.bsp_store_load.specs.Forms.{IsFormed}
 use Rattle.bsp_store_open.specs.Filled.{HasOldNumber, IsOfOld, KeepsOldRows}
-use Rattle.bsp_store_open.specs.Old.{old_number, old_schema}
+use Rattle.bsp_store_open.specs.Old.{old_schema}
 use Rattle.bsp_store_open.specs.declared.old_versions.OldVersion.{OldVersion}
 use Rattle.bsp_store_open.specs.Opening.{AreAllInOrder, KeepsAtRest, Reports}
 use Rattle.bsp_store_open.specs.declared.fault.OpenFault.{OpenFault}
@@ -106,13 +106,7 @@ module _ {S : Type 0} (g : Ghosts S) where
 
   -- ---- step by step
 
-  -- all rows of `meta` were read, and the tables are as they were
-  pub record AreOldMeta (old new : Held S) (rows : List Row) : Type 0 where
-    pub read : Reads g old new
-    pub was_open : HasCleanDisk (state g new) → IsTrue (state g old).is_open
-    pub all : HasCleanDisk (state g new) → AreMetaOf (state g old).now.trees rows
-
-  -- they have the number of the version
+  -- all rows of `meta` were read, and the tables are as they were. They have the number of the version
   pub record IsNumbered (version : OldVersion) (old new : Held S) : Type 0 where
     pub read : Reads g old new
     pub was_open : HasCleanDisk (state g new) → IsTrue (state g old).is_open

@@ -17,7 +17,7 @@ use Rattle.bsp_book.specs.Listed.{meaning as listed}
 use Rattle.bsp_book.specs.declared.list.ListBook.{ListBook}
 use Rattle.bsp_store_base.specs.Order.{AreInOrder, IsInOrder}
 use Rattle.bsp_store_load.specs.Schema.{our_schema}
-use Rattle.bsp_store_load.specs.Kept.{IsOutside, KeepsRows, Reads, HasContents, columns_of}
+use Rattle.bsp_store_load.specs.Kept.{IsOutside, KeepsRows, Reads, HasContents, Spares, columns_of}
 use Rattle.bsp_store_load.specs.Columns.{count, version}
 use Rattle.bsp_store_load.specs.Content.{Content, airline_part, commission_tax_part, form, meta_part, period_part, rate_part, terms_part, width_of}
 use Rattle.bsp_store_load.specs.Contents.{IsContentOf, KeepsBook}
@@ -101,6 +101,10 @@ KeepsOnly rows trees = (other : Rows) → Sound other → AreFormed other → Ke
 
 -- ---- an opening, step by step
 
+-- tables are refused as damaged, for this
+abbrev pub IsDamage : (Trees → Type 0) → OpenFault → Trees → Type 0
+IsDamage Missed fault trees = (fault ≡ Damaged) × Missed trees
+
 -- the rows of each table are in the order of their rowids, which are integers
 abbrev pub AreOrdered : Database → Type 0
 AreOrdered db = AllByRecursion (IsInOrder db.trees) (map (λ t. t.tree) db.schema.tables)
@@ -123,6 +127,21 @@ module _ {S : Type 0} (g : Ghosts S) where
   -- this is found of the tables of a book, though what is looked for was missed
   abbrev pub Misses : Held S → Held S → (Trees → Type 0) → Type 0
   Misses old new Found = HasCleanDisk (state g new) → old.schema ≡ our_schema → Found (state g old).now.trees
+
+  -- a call that reads the tables of a book: what holds of the value that it answers, and what it finds of the tables then.
+  -- Where it refuses them it missed this in them. Whatever it answers, a stop leaves no more than there was
+  pub record IsReading {X : Type 0} (old new : Held S) (result : Result X OpenFault) (Holds : X → Type 0) (Found : X → Trees → Type 0) (Missed : OpenFault → Trees → Type 0) : Type 0 where
+    pub holds : IfOk result Holds
+    pub found : IfOk result (λ x. Finds old new (Found x))
+    pub refused : IfErr result (λ fault. is_refusal fault ≡ true → Misses old new (Missed fault))
+    pub spares : Spares g old new
+
+  -- a call that reads one table, and refuses only tables that are not a book's
+  pub record IsTableRead {X : Type 0} (old new : Held S) (result : Result X OpenFault) (Holds : X → Type 0) (Found : X → Trees → Type 0) : Type 0 where
+    pub holds : IfOk result Holds
+    pub found : IfOk result (λ x. Finds old new (Found x))
+    pub refused : IfErr result (λ fault. is_refusal fault ≡ true → (fault ≡ Damaged) × ¬ (old.schema ≡ our_schema))
+    pub spares : Spares g old new
 
   -- what was read shows that there is no book of this version
   abbrev pub HasNoBook : OpenFault → Held S → Held S → Type 0

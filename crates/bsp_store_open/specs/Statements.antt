@@ -1,5 +1,5 @@
 -- What the statements that fill the tables of an older version make of the trees.
-use Rattle.std.specs.Prelude.{◌≡◌, ℕ, ◌==◌, ◌&&◌, pos, Bool, true, not, List, [], ◌∷◌, length, map, IsPermutation, IsTrue}
+use Rattle.std.specs.Prelude.{◌≡◌, ℕ, ◌==◌, ◌&&◌, pos, Bool, true, not, List, [], ◌∷◌, length, map, IsPermutation, IsTrue, OnOk, Result}
 use Rattle.std.specs.List.{AllByRecursion, list_any}
 use Rattle.sqlite_value.specs.Order.{Row, column}
 use Rattle.sqlite_value.specs.declared.value.Value.TheVariants.{Int, Null}
@@ -11,11 +11,12 @@ use Rattle.sqlite_schema.specs.declared.schema.Table.{Table}
 use Rattle.sqlite_rules.specs.Cast.{cast_row}
 use Rattle.sqlite.specs.Effect.{IsDatabase}
 use Rattle.sqlite.specs.Held.{Held, state}
-use Rattle.sqlite.specs.State.{HasCleanDisk, State}
-use Rattle.bsp_store_base.specs.Schema.{commission_tax_table, item_table, item_tax_table, meta_table, our_schema, second_related_table, tally_table, tally_tax_table}
+use Rattle.sqlite.specs.State.{HasCleanDisk, KeepsCommit, State}
+use Rattle.sqlite.specs.declared.error.Error.{Error}
+use Rattle.bsp_store_base.specs.Schema.{commission_tax_table, item_table, item_tax_table, meta_table, second_related_table, tally_table, tally_tax_table}
 use Rattle.bsp_store_base.specs.Columns.{count, version}
-use Rattle.bsp_store_base.specs.Kept.{columns_of}
-use Rattle.bsp_store_open.specs.Old.{old_schema, old_tables}
+use Rattle.bsp_store_base.specs.Kept.{Spares, columns_of}
+use Rattle.bsp_store_open.specs.Old.{old_tables}
 use Rattle.bsp_store_open.specs.declared.old_versions.OldVersion.{OldVersion}
 use Rattle.bsp_store_open.specs.declared.old_versions.OldVersion.TheVariants.{First, Second}
 
@@ -77,8 +78,8 @@ pub record Goes (schema : Schema) (Made : Trees → Trees → Type 0) (old new :
   pub made : Made old.now.trees new.now.trees
   pub committed : new.committed ≡ old.committed
 
-abbrev pub AddsTaxes : State → State → Type 0
-AddsTaxes = Goes (old_schema Second) HasTaxes
-
-abbrev pub AddsSeconds : State → State → Type 0
-AddsSeconds = Goes our_schema HasSeconds
+-- what a text that adds tables ensures, whatever is answered: nothing is committed, and a stop leaves no more than there was
+pub record IsAdded {S : Type 0} (g : Ghosts S) (before after : Schema) (Made : Trees → Trees → Type 0) (old new : Held S) (result : Result (Unit {0}) Error) : Type 0 where
+  pub spares : IsAt g before old → Spares g old new
+  pub kept : IsAt g before old → HasCleanDisk (state g new) → KeepsCommit (state g old) (state g new)
+  pub added : OnOk result (IsAt g before old → HasCleanDisk (state g new) → Goes after Made (state g old) (state g new))

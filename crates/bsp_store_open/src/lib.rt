@@ -14,10 +14,7 @@
 
 mod adding;
 mod connections;
-mod ends;
 mod fault;
-mod filling;
-mod given;
 mod migrating;
 mod number;
 mod old_versions;

@@ -1,6 +1,6 @@
 //! The number that the table `meta` of an earlier version has.
 
-ghost use Rattle.std.specs.Prelude.{◌≡◌, false, true, IfErr, IfOk, OnOk};
+ghost use Rattle.std.specs.Prelude.{◌≡◌, true, IfErr, OnOk};
 ghost use Rattle.sqlite.specs.Held.{state};
 ghost use Rattle.sqlite.specs.State.{HasCleanDisk};
 ghost use Rattle.bsp_store_load.specs.Kept.{Spares};
@@ -8,7 +8,7 @@ ghost use Rattle.bsp_store_open.specs.Old.{old_number, old_schema};
 ghost use Rattle.bsp_store_open.specs.declared.old_versions.OldVersion.{OldVersion};
 ghost use Rattle.bsp_store_open.specs.Faults.{is_refusal};
 ghost use Rattle.bsp_store_open.specs.Opening.{Reports};
-ghost use Rattle.bsp_store_open.specs.Migrating.{AreOldMeta, HasNoOldBook, HasNumber, IsEarlier, IsNumbered};
+ghost use Rattle.bsp_store_open.specs.Migrating.{HasNoOldBook, HasNumber, IsEarlier, IsNumbered};
 
 use crate::fault::OpenFault;
 use crate::old_versions::OldVersion;
@@ -20,9 +20,7 @@ use sqlite::{Alter, Connection, Row};
 /// not its own.
 fn expect_number(rows: &[Row], version: OldVersion) -> Result<(), OpenFault>
     ensures ok { OnOk result (HasNumber (old_number version) rows.now) }
-    ensures refused { IfErr result (λ fault. ¬ HasNumber (old_number version) rows.now) }
-    ensures reported { IfErr result (λ fault. Reports fault rows.now) }
-    ensures refuses { IfErr result (λ fault. is_refusal fault ≡ true) }
+    ensures refused { IfErr result (λ fault. ¬ HasNumber (old_number version) rows.now × Reports fault rows.now) }
 {
     let Some(row) = rows.first() else {
         return Err(OpenFault::Damaged);
@@ -39,16 +37,8 @@ fn expect_number(rows: &[Row], version: OldVersion) -> Result<(), OpenFault>
     Err(OpenFault::OtherVersion)
 }
 
-/// All rows of `meta`. The text is that of every version.
-fn old_meta<S: Alter>(conn: &mut Connection<S>) -> Result<Vec<Row>, OpenFault>
-    ensures found { IfOk result (λ rows. (version : OldVersion) → conn.old.schema ≡ old_schema version → AreOldMeta S.Store conn.old conn.new rows.items) }
-    ensures refused { IfErr result (λ fault. is_refusal fault ≡ false) }
-    ensures spares { (version : OldVersion) → conn.old.schema ≡ old_schema version → Spares S.Store conn.old conn.new }
-{
-    Ok(conn.query_all("SELECT id, version, day, closed FROM meta", &[])?)
-}
-
-/// Refuses tables of an earlier version whose `meta` has another number than that of the version, or none.
+/// Refuses tables of an earlier version whose `meta` has another number than that of the version, or none. The text
+/// is that of every version.
 ///
 /// # Errors
 ///
@@ -62,7 +52,7 @@ pub(crate) fn expect_numbered<S: Alter>(
     ensures refused { IfErr result (λ fault. is_refusal fault ≡ true → HasNoOldBook S.Store version fault conn.old conn.new) }
     ensures spares { Spares S.Store conn.old conn.new }
 {
-    let rows = old_meta(conn)?;
+    let rows = conn.query_all("SELECT id, version, day, closed FROM meta", &[])?;
     expect_number(&rows, version)
 }
 

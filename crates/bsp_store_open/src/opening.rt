@@ -1,16 +1,17 @@
 //! A store read as a book in memory.
 
-ghost use Rattle.std.specs.Prelude.{◌≡◌, ◌⊎◌, true, false, Err, IfErr, IfOk, IsOkAnd, MatchResult, None, OnOk};
-ghost use Rattle.bsp_book.specs.Listed.{AreCommitted as AreListed, meaning as listed};
+ghost use Rattle.std.specs.Prelude.{◌≡◌, ◌⊎◌, true, false, IfErr, IfOk, OnOk};
 ghost use Rattle.bsp_book.specs.Rows.{no_rows};
 ghost use Rattle.bsp_book.specs.Sound.{Sound};
 ghost use Rattle.bsp_store_load.specs.MemoryRowsTables.{rows_of};
+ghost use Rattle.bsp_store_load.specs.Formed.{AreFormed};
 ghost use Rattle.bsp_store_load.specs.Kept.{Spares};
+ghost use Rattle.bsp_store_load.specs.Stored.{AreCommitted};
 ghost use Rattle.bsp_store_open.specs.Faults.{is_refusal};
-ghost use Rattle.bsp_store_open.specs.Opening.{HasNoBook, IsAtRest, IsOrdered, IsRead};
+ghost use Rattle.bsp_store_open.specs.Loaded.{IsAllLoaded};
+ghost use Rattle.bsp_store_open.specs.Opening.{HasNoBook, IsAtRest, IsOrdered, IsRead, IsReading, ShowsNoBook};
 
 use crate::fault::OpenFault;
-use crate::given::unless_fault;
 use crate::tables::kept_tables;
 use bsp_book::ListBook;
 use bsp_store_load::{Tables, has_nothing};
@@ -45,33 +46,20 @@ pub fn expect_sound(alloc: Global, tables: &Tables) -> Result<(), OpenFault>
     Ok(())
 }
 
-/// Refuses a connection on which a transaction is open, and tables in memory whose rows are not sound.
-fn expect_kept<S: Alter>(
+/// The tables in memory that the tables of a store keep, whose rows are sound. A transaction may be open.
+///
+/// # Errors
+///
+/// As those of [`kept_tables`]. `Damaged` too, where the rows are not sound.
+pub(crate) fn sound_tables<S: Alter>(
     alloc: Global,
-    conn: &Connection<S>,
-    tables: &Tables,
-) -> Result<(), OpenFault>
-    ensures rest { OnOk result (IsAtRest S.Store conn.now) }
-    ensures sound { OnOk result (Sound (rows_of tables.now)) }
-    ensures refused { IfErr result (λ fault. is_refusal fault ≡ true → (fault ≡ OpenFault.Damaged) × ¬ Sound (rows_of tables.now)) }
+    conn: &mut Connection<S>,
+) -> Result<Tables, OpenFault>
+    ensures { IsReading S.Store conn.old conn.new result (λ tables. AreCommitted tables × AreFormed (rows_of tables) × Sound (rows_of tables)) (λ tables trees. IsAllLoaded trees tables) ShowsNoBook }
 {
-    expect_rest(conn)?;
-    expect_sound(alloc, tables)
-}
-
-/// A book in memory over tables, unless a fault was found.
-fn list_over(
-    alloc: Global,
-    tested: Result<(), OpenFault>,
-    tables: Tables,
-) -> Result<ListBook, OpenFault>
-    requires { OnOk tested (AreListed tables) }
-    ensures { MatchResult tested (λ _. IsOkAnd result (λ list. (list.tables ≡ tables) × listed.holds list (rows_of tables) None)) (λ fault. result ≡ Err fault) }
-{
-    match unless_fault(tested, tables) {
-        Ok(tables) => Ok(ListBook::over(alloc, tables)),
-        Err(fault) => Err(fault),
-    }
+    let tables = kept_tables(alloc, conn)?;
+    expect_sound(alloc, &tables)?;
+    Ok(tables)
 }
 
 /// The book in memory that the tables of a store keep.
@@ -86,13 +74,9 @@ pub fn kept_list<S: Alter>(alloc: Global, conn: &mut Connection<S>) -> Result<Li
     ensures refused { IfErr result (λ fault. is_refusal fault ≡ true → HasNoBook S.Store fault conn.old conn.new) }
     ensures spares { Spares S.Store conn.old conn.new }
 {
-    match kept_tables(alloc, conn) {
-        Ok(tables) => {
-            let tested = expect_kept(alloc, conn, &tables);
-            list_over(alloc, tested, tables)
-        }
-        Err(fault) => Err(fault),
-    }
+    let tables = sound_tables(alloc, conn)?;
+    expect_rest(conn)?;
+    Ok(ListBook::over(alloc, tables))
 }
 
 /// Refuses tables in memory that have a row, or a plan.
@@ -105,19 +89,6 @@ fn expect_none(alloc: Global, tables: &Tables) -> Result<(), OpenFault>
     Ok(())
 }
 
-/// Refuses a connection on which a transaction is open, and tables in memory that have a row, or a plan.
-fn expect_empty<S: Alter>(
-    alloc: Global,
-    conn: &Connection<S>,
-    tables: &Tables,
-) -> Result<(), OpenFault>
-    ensures rest { OnOk result (IsAtRest S.Store conn.now) }
-    ensures none { OnOk result (rows_of tables.now ≡ no_rows) }
-{
-    expect_rest(conn)?;
-    expect_none(alloc, tables)
-}
-
 /// An empty book in memory, which the tables of a store keep.
 ///
 /// # Errors
@@ -127,11 +98,7 @@ pub fn empty_list<S: Alter>(alloc: Global, conn: &mut Connection<S>) -> Result<L
     ensures read { IfOk result (λ list. IsOrdered S.Store conn.old → IsRead S.Store conn.old conn.new list no_rows) }
     ensures spares { Spares S.Store conn.old conn.new }
 {
-    match kept_tables(alloc, conn) {
-        Ok(tables) => {
-            let tested = expect_empty(alloc, conn, &tables);
-            list_over(alloc, tested, tables)
-        }
-        Err(fault) => Err(fault),
-    }
+    let list = kept_list(alloc, conn)?;
+    expect_none(alloc, list.tables())?;
+    Ok(list)
 }

@@ -1,13 +1,12 @@
 //! All rows of the plan's tables of a store, and of its tallies and their taxes.
 
-ghost use Rattle.std.specs.Prelude.{◌≡◌, true, IfErr, IfOk, MatchResult, OnOk};
-ghost use Rattle.sqlite.specs.Held.{state};
+ghost use Rattle.std.specs.Prelude.{◌≡◌, ⊤, true, IfErr, MatchResult, OnOk};
 ghost use Rattle.bsp_store_load.specs.Schema.{our_schema};
 ghost use Rattle.bsp_store_load.specs.Kept.{Spares};
 ghost use Rattle.bsp_store_load.specs.Shows.{AreAllOf};
 ghost use Rattle.bsp_store_load.specs.Whole.{part_of};
 ghost use Rattle.bsp_store_open.specs.Faults.{is_refusal, refusal_for};
-ghost use Rattle.bsp_store_open.specs.Opening.{ArePlanRows, Finds, HasNoBook, IsAskedVersion, IsOfVersion, IsRefusalOf, Reports};
+ghost use Rattle.bsp_store_open.specs.Opening.{ArePlanRows, IsAskedVersion, IsOfVersion, IsReading, IsRefusalOf, IsTableRead, Reports, ShowsNoBook};
 
 use crate::fault::{OpenFault, fault_of};
 use crate::version::{VERSION_TEXT, is_known};
@@ -51,9 +50,7 @@ fn expect_version(rows: &[Row]) -> Result<(), OpenFault>
 ///
 /// `Damaged`, where the tables are not those of a book. Those of the store.
 pub fn rows_of<S: Alter>(conn: &mut Connection<S>, table: WholeTable) -> Result<Vec<Row>, OpenFault>
-    ensures found { IfOk result (λ rows. Finds S.Store conn.old conn.new (λ trees. AreAllOf (part_of table) trees rows.items)) }
-    ensures spares { Spares S.Store conn.old conn.new }
-    ensures refused { IfErr result (λ fault. is_refusal fault ≡ true → (fault ≡ OpenFault.Damaged) × ¬ (conn.old.schema ≡ our_schema)) }
+    ensures { IsTableRead S.Store conn.old conn.new result (λ _. ⊤) (λ rows trees. AreAllOf (part_of table) trees rows.items) }
 {
     expect_tables(conn)?;
     Ok(all_rows(conn, table)?)
@@ -67,10 +64,7 @@ pub fn rows_of<S: Alter>(conn: &mut Connection<S>, table: WholeTable) -> Result<
 /// known version, or the tables are not those of a book. Those of the
 /// store.
 pub fn plan_rows<S: Alter>(conn: &mut Connection<S>) -> Result<PlanRows, OpenFault>
-    ensures found { IfOk result (λ rows. Finds S.Store conn.old conn.new (λ trees. ArePlanRows trees rows)) }
-    ensures version { IfOk result (λ rows. IsOfVersion rows.meta.items) }
-    ensures spares { Spares S.Store conn.old conn.new }
-    ensures refused { IfErr result (λ fault. is_refusal fault ≡ true → HasNoBook S.Store fault conn.old conn.new) }
+    ensures { IsReading S.Store conn.old conn.new result (λ rows. IsOfVersion rows.meta.items) (λ rows trees. ArePlanRows trees rows) ShowsNoBook }
 {
     let meta = rows_of(conn, WholeTable::Meta)?;
     expect_version(&meta)?;
@@ -99,22 +93,15 @@ fn refusal_for(error: StoreError) -> OpenFault
     }
 }
 
-/// Why tables that are not those of a book are refused, by their rows of `meta`.
-fn refusal_by(rows: &[Row]) -> OpenFault
-    ensures { Reports result rows.now × (is_refusal result ≡ true) }
-{
-    match expect_version(rows) {
-        Ok(()) => OpenFault::Damaged,
-        Err(fault) => fault,
-    }
-}
-
 /// Why tables that are not those of a book are refused, by what they answer when they are asked for their version.
 fn refusal_of(found: Result<Vec<Row>, StoreError>) -> OpenFault
     ensures { IsRefusalOf found result }
 {
     match found {
-        Ok(rows) => refusal_by(&rows),
+        Ok(rows) => match expect_version(&rows) {
+            Ok(()) => OpenFault::Damaged,
+            Err(fault) => fault,
+        },
         Err(error) => refusal_for(error),
     }
 }

@@ -1,5 +1,5 @@
 -- A store that is not broken is open, and the rollback left what was committed.
-use Rattle.std.proofs.Common.{Ok, inr, refl, sym, ◌∙◌, arith}
+use Rattle.std.proofs.Common.{Ok, inr, sym, ◌∙◌, arith}
 use Rattle.sqlite_rules.proofs.ViewLemmas.{still_quiet}
 use Rattle.bsp_store_open.proofs.OpeningLemmas.{still_clean}
 use Rattle.bsp_store_open.proofs.OrderLemmas.{ours_in_order, reopened_trees}
@@ -26,27 +26,3 @@ pub returns-in-Err-clause-left : goal.returns-in-Err-clause-left
 returns-in-Err-clause-left g c =
     let quiet = still_quiet c.into_store-store.ensures.quiet c.in-Err.ensures.unharmed in
     record { earlier = λ clean. still_clean g.S.Store c.args.conn _ quiet clean; leaves = λ clean db may. inr (quiet.outcomes db may) }
-
-pub returns-then-is_broken-clause-ok : goal.returns-then-is_broken-clause-ok
-returns-then-is_broken-clause-ok g c = tt
-
-pub returns-then-is_broken-clause-ordered : goal.returns-then-is_broken-clause-ordered
-returns-then-is_broken-clause-ordered g c = tt
-
-pub returns-then-is_broken-clause-refused : goal.returns-then-is_broken-clause-refused
-returns-then-is_broken-clause-refused g c = refl
-
-pub returns-in-Ok-clause-ordered : goal.returns-in-Ok-clause-ordered
-returns-in-Ok-clause-ordered g c = c.in-Ok.ensures.order
-
-pub returns-in-Ok-clause-refused : goal.returns-in-Ok-clause-refused
-returns-in-Ok-clause-refused g c = tt
-
-pub returns-in-Ok-clause-left : goal.returns-in-Ok-clause-left
-returns-in-Ok-clause-left g c = tt
-
-pub returns-in-Err-clause-ok : goal.returns-in-Err-clause-ok
-returns-in-Err-clause-ok g c = tt
-
-pub returns-in-Err-clause-ordered : goal.returns-in-Err-clause-ordered
-returns-in-Err-clause-ordered g c = tt

@@ -10,9 +10,6 @@ use Rattle.bsp_store_open.specs.Migrating.{HasNoOldBook, IsMigrated}
 use Rattle.bsp_store_open.proofs.MigratingLemmas.{damaged, has_number, is_begun, migrated, spared, stopped}
 use Rattle.bsp_store_open.proofs.migrating.migrated_list.Goals as goal
 
-pub expect_numbered-requires : goal.expect_numbered-requires
-expect_numbered-requires g c = c.requires.schema
-
 pub filled_tables-requires : goal.filled_tables-requires
 filled_tables-requires g c = record {
   begun = is_begun g.S.Store c.args.version c.args.conn.now c.expect_numbered.new.conn c.begin.new.conn c.requires c.in_ok-expect_numbered.ensures.numbered c.in_ok-expect_numbered.ensures.spares c.in_ok-begin.ensures.begun c.in_ok-begin.ensures.spares;

@@ -1,25 +1,28 @@
-use Rattle.std.proofs.Common.{◌≡◌, true}
-use Rattle.sqlite_trees.specs.Tree.{Trees}
-use Rattle.bsp_store_load.specs.Content.{tally_part}
-use Rattle.bsp_store_load.specs.Contents.{content_now}
-use Rattle.bsp_store_load.specs.Loading.{HasRows}
-use Rattle.bsp_store_open.specs.Faults.{is_refusal}
-use Rattle.bsp_store_open.specs.Loaded.{OtherTallies}
-use Rattle.bsp_store_open.specs.Opening.{Misses}
-use Rattle.bsp_store_open.proofs.OpeningLemmas.{both, if_err, missed_after, misses_more, on_ok, passed_on}
+use Rattle.std.proofs.Common.{IsPermutation, refl, ap, subst, ◌∙◌}
+use Rattle.bsp_store_load.specs.Content.{tally_part, tally_tax_part}
+use Rattle.bsp_store_open.proofs.OpeningLemmas.{after, denies, gives, of_table, stops}
 use Rattle.bsp_store_open.proofs.tables.expect_sums.Goals as goal
 
-pub returns-in_err-expect_tallies-clause-missed : goal.returns-in_err-expect_tallies-clause-missed
-returns-in_err-expect_tallies-clause-missed g c =
-    passed_on (λ fault. is_refusal fault ≡ true → Misses g.S.Store c.args.conn.now c.expect_tallies.new.conn (OtherTallies (content_now c.args.tables.now))) _ _ c.from_residual.ensures.1 c.in_err-expect_tallies.ensures.missed
+pub returns-in_err-rows : goal.returns-in_err-rows
+returns-in_err-rows g c = stops c.from_residual.ensures.1 (of_table c.in_err-rows.ensures) (λ fault trees none. absurd none)
 
-pub returns-clause-found : goal.returns-clause-found
-returns-clause-found g c = on_ok _ _ c.expect_tally_taxes.result c.expect_tally_taxes.ensures.found (λ last. both g.S.Store _ _ _ _ _ c.in_ok-expect_tallies.ensures.found last)
+pub returns-then-not-are_tallies : goal.returns-then-not-are_tallies
+returns-then-not-are_tallies g c =
+    let same = rw (c.tally_table.ensures, c.deref.ensures.value) at c.are_tallies.ensures in
+    denies _ refl (of_table c.in_ok-rows.ensures) (λ is trees read. (refl, λ d formed keeps now. let all = same.1 (read.in_order d formed keeps ∙ ap tally_part.rows now) in cc (all, c.if-not-are_tallies.true)))
 
-pub returns-clause-missed : goal.returns-clause-missed
-returns-clause-missed g c =
-    let now = content_now c.args.tables.now in
-    let first : Trees → Type 0 = HasRows tally_part now in
-    if_err _ _ c.expect_tally_taxes.result c.expect_tally_taxes.ensures.missed (λ fault missed refused.
-    misses_more g.S.Store c.args.conn.now c.expect_tally_taxes.new.conn (λ trees. first trees × OtherTallies now trees) (OtherTallies now)
-    (missed_after g.S.Store c.args.conn.now c.expect_tallies.new.conn c.expect_tally_taxes.new.conn first (OtherTallies now) c.in_ok-expect_tallies.ensures.found c.expect_tally_taxes.ensures.spares (missed refused)) (λ trees found. found.1))
+pub returns-in_err-taxes : goal.returns-in_err-taxes
+returns-in_err-taxes g c = stops c.from_residual-in_err-taxes.ensures.1 (after (of_table c.in_ok-rows.ensures) (of_table c.in_err-taxes.ensures)) (λ fault trees it. absurd it.1)
+
+pub returns-then-not-are_tally_taxes : goal.returns-then-not-are_tally_taxes
+returns-then-not-are_tally_taxes g c =
+    let same = rw (c.tally_table-2.ensures, c.deref-2.ensures.value) at c.are_tally_taxes.ensures in
+    denies _ refl (after (of_table c.in_ok-rows.ensures) (of_table c.in_ok-taxes.ensures))
+    (λ is trees read. (refl, λ d formed keeps now. let all = same.1 (read.1.in_order d formed keeps ∙ ap tally_tax_part.rows now) in cc (all, c.if-not-are_tally_taxes.true)))
+
+pub returns : goal.returns
+returns g c =
+    let tallies = rw (c.tally_table.ensures, c.deref.ensures.value) at c.are_tallies.ensures in
+    let taxes = rw (c.tally_table-2.ensures, c.deref-2.ensures.value) at c.are_tally_taxes.ensures in
+    gives (after (of_table c.in_ok-rows.ensures) (of_table c.in_ok-taxes.ensures)) (λ done. tt)
+    (λ trees read. (subst (IsPermutation _) (tallies.0 c.if-not-are_tallies.false) read.0.in_any_order, subst (IsPermutation _) (taxes.0 c.if-not-are_tally_taxes.false) read.1.in_any_order))

@@ -1,28 +1,17 @@
-use Rattle.std.proofs.Common.{◌≡◌, true, subst}
-use Rattle.sqlite.specs.Held.{state}
-use Rattle.bsp_store_load.specs.Loading.{IsLoaded, LeavesRow}
-use Rattle.bsp_store_open.specs.Faults.{is_refusal}
-use Rattle.bsp_store_open.specs.Opening.{Misses}
-use Rattle.bsp_store_open.specs.declared.fault.OpenFault.TheVariants.{Damaged}
+use Rattle.std.proofs.Common.{refl}
 use Rattle.bsp_store_open.proofs.LoadedLemmas.{none_left, one_left}
-use Rattle.bsp_store_open.proofs.OpeningLemmas.{passed_on, weaker}
+use Rattle.bsp_store_open.proofs.OpeningLemmas.{denies, gives, of_table, stops}
 use Rattle.bsp_store_open.proofs.tables.load.Goals as goal
 
-pub returns-in_err-left-clause-missed : goal.returns-in_err-left-clause-missed
-returns-in_err-left-clause-missed g c =
-    passed_on (λ fault. is_refusal fault ≡ true → Misses g.S.Store c.args.conn.now c.load_rows.new.conn (λ trees. LeavesRow g.T.StoredTable.part g.T.StoredTable.row_of g.T.StoredTable.with_entry (g.T.StoredTable.fits c.args.table.now) g.T.StoredTable.lacks g.T.StoredTable.rows_in trees (g.T.StoredTable.whole c.args.memory.now) (g.T.StoredTable.whole c.load_rows.new.memory))) _ _ c.from_residual.ensures.1
-    (λ refused clean ours. absurd ((c.in_err-left.ensures.refused refused).1 ours))
+pub returns-in_err-left : goal.returns-in_err-left
+returns-in_err-left g c = stops c.from_residual.ensures.1 (of_table c.in_err-left.ensures) (λ fault trees none. absurd none)
 
-pub returns-in_err-left-clause-fault : goal.returns-in_err-left-clause-fault
-returns-in_err-left-clause-fault g c = passed_on (λ fault. is_refusal fault ≡ true → fault ≡ Damaged) _ _ c.from_residual.ensures.1 (λ refused. (c.in_err-left.ensures.refused refused).0)
+pub returns-then-is_some : goal.returns-then-is_some
+returns-then-is_some g c =
+    let left = one_left c.in_ok-left.left c.is_some.result c.is_some.ensures c.if-is_some.true in
+    denies _ refl (of_table c.in_ok-left.ensures) (λ is trees loaded. (refl, (left.0, rw left.1 at loaded)))
 
-pub returns-then-is_some-clause-missed : goal.returns-then-is_some-clause-missed
-returns-then-is_some-clause-missed g c = λ refused clean ours.
-    let left = one_left c.in_ok-left.left c.is_some.result c.is_some.ensures c.if-is_some.true in (
-      left.0,
-      subst (IsLoaded g.T.StoredTable.part g.T.StoredTable.row_of g.T.StoredTable.with_entry (g.T.StoredTable.fits c.args.table.now) g.T.StoredTable.lacks g.T.StoredTable.rows_in (state g.S.Store c.args.conn.now).now.trees (g.T.StoredTable.whole c.args.memory.now) (g.T.StoredTable.whole c.load_rows.new.memory)) left.1 (c.in_ok-left.ensures.found.found clean),
-    )
-
-pub returns-clause-found : goal.returns-clause-found
-returns-clause-found g c =
-    weaker g.S.Store _ _ _ _ (λ trees. subst (IsLoaded g.T.StoredTable.part g.T.StoredTable.row_of g.T.StoredTable.with_entry (g.T.StoredTable.fits c.args.table.now) g.T.StoredTable.lacks g.T.StoredTable.rows_in trees (g.T.StoredTable.whole c.args.memory.now) (g.T.StoredTable.whole c.load_rows.new.memory)) (none_left c.in_ok-left.left c.is_some.result c.is_some.ensures c.if-is_some.false)) c.in_ok-left.ensures.found
+pub returns : goal.returns
+returns g c =
+    let none = none_left c.in_ok-left.left c.is_some.result c.is_some.ensures c.if-is_some.false in
+    gives (of_table c.in_ok-left.ensures) (λ done. c.in_ok-left.ensures.holds) (λ trees loaded. rw none at loaded)

@@ -1,5 +1,5 @@
-use Rattle.bsp_store_open.proofs.EndLemmas.{begin_spares, has_begun}
-use Rattle.bsp_store_open.proofs.ends.begin.Goals as goal
+use Rattle.bsp_store_open.proofs.MigratingLemmas.{begin_spares, has_begun}
+use Rattle.bsp_store_open.proofs.migrating.begin.Goals as goal
 
 pub returns-clause-begun : goal.returns-clause-begun
 returns-clause-begun g c = has_begun g.S.Store c.args.conn.now c.execute.new.self _ c.in_ok-execute.ensures.survives c.in_ok-execute.ensures.runs

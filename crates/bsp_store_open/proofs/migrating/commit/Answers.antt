@@ -1,5 +1,5 @@
-use Rattle.bsp_store_open.proofs.EndLemmas.{has_ended, may_end}
-use Rattle.bsp_store_open.proofs.ends.commit.Goals as goal
+use Rattle.bsp_store_open.proofs.MigratingLemmas.{has_ended, may_end}
+use Rattle.bsp_store_open.proofs.migrating.commit.Goals as goal
 
 pub returns-clause-ended : goal.returns-clause-ended
 returns-clause-ended g c = has_ended g.S.Store c.args.conn.now c.execute.new.self _ c.in_ok-execute.ensures.survives c.in_ok-execute.ensures.runs
