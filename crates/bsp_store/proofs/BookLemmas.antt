@@ -1,19 +1,20 @@
 -- What a call makes of a book that is kept, by what it makes of the book in memory.
-use Rattle.std.proofs.Common.{◌≡◌, false, true, refl, sym, ◌∙◌, subst, Result, Ok, Err, OnOk, Option, Some, IfOk}
+use Rattle.std.proofs.Common.{◌≡◌, false, true, refl, sym, ap, ◌∙◌, subst, Result, Ok, Err, OnOk, Option, Some, IfOk}
 use Rattle.bsp_rows.specs.Rows.{Rows}
 use Rattle.bsp_book.specs.Calls.{Answers, FallsBack, Faults, GoesBack, LeavesBegun, LeavesLast, LooksUp, Makes, Meaning, is_failed}
 use Rattle.bsp_book.specs.declared.fault.BookFault.{BookFault}
 use Rattle.bsp_book.specs.declared.fault.BookFault.TheVariants.{Failed}
 use Rattle.bsp_store_open.specs.Formed.{AreFormed}
-use Rattle.bsp_store.specs.Meanings.{IsKeptBook, meaning}
+use Rattle.bsp_store.specs.Meanings.{IsKeptBook, is_over, meaning}
 use Rattle.bsp_store.specs.declared.book.KeptBook.{KeptBook}
+use Rattle.bsp_store.specs.declared.book.State.TheVariants.{Works}
 
 module _ {L C : Type 0} (m : Meaning L Rows) (keeps : C → Rows → Type 0) (leaves : C → Rows → Rows → Type 0) (never : (list : L) → m.has_failed list ≡ false) where
   abbrev kept : Meaning (KeptBook L C) Rows
   kept = meaning m keeps leaves
 
-  module _ (book : KeptBook L C) {was : L} (found : (was ≡ book.list) × (book.failed ≡ false)) (list : L) {T : Type 0} (r : Result T BookFault) where
-    works : book.failed ≡ false
+  module _ (book : KeptBook L C) {was : L} (found : (was ≡ book.list) × (book.state ≡ Works)) (list : L) {T : Type 0} (r : Result T BookFault) where
+    works : book.state ≡ Works
     works = found.1
 
     -- the book with another book in memory
@@ -24,18 +25,18 @@ module _ {L C : Type 0} (m : Meaning L Rows) (keeps : C → Rows → Type 0) (le
     fell_back fault = record {
       trust = λ t. tt;
       full = λ e now last holds. record { works = works; listed = fault.full e now last holds.listed; formed = holds.was_formed; was_formed = holds.was_formed; kept = holds.kept };
-      failed = works ∙ (sym (never list) ∙ fault.failed);
+      failed = ap is_over works ∙ (sym (never list) ∙ fault.failed);
       left = λ e was. absurd (let yes : is_failed r ≡ true = subst (λ q. is_failed q ≡ true) (sym e) refl in let no = sym (never list) ∙ fault.failed in cc (yes, no));
-      dead = λ was. absurd (cc (was, works));
+      dead = λ was. absurd (let none : is_over book.state ≡ false = ap is_over works in cc (was, none));
     }
 
     went_back : Faults m book.list list (GoesBack m book.list list) (LeavesBegun m book.list list) r → Faults kept book next (GoesBack kept book next) (LeavesBegun kept book next) r
     went_back fault = record {
       trust = λ t. tt;
       full = λ e now begun holds. record { works = works; listed = fault.full e now begun holds.listed; formed = holds.was_formed; was_formed = holds.was_formed; kept = holds.kept };
-      failed = works ∙ (sym (never list) ∙ fault.failed);
+      failed = ap is_over works ∙ (sym (never list) ∙ fault.failed);
       left = λ e was. absurd (let yes : is_failed r ≡ true = subst (λ q. is_failed q ≡ true) (sym e) refl in let no = sym (never list) ∙ fault.failed in cc (yes, no));
-      dead = λ was. absurd (cc (was, works));
+      dead = λ was. absurd (let none : is_over book.state ≡ false = ap is_over works in cc (was, none));
     }
 
     -- a look-up

@@ -1,5 +1,5 @@
 -- What an opening makes of a store: a book, or why it is refused.
-use Rattle.std.specs.Prelude.{◌≡◌, ◌⊎◌, Result, IfErr, true, None}
+use Rattle.std.specs.Prelude.{◌≡◌, ◌⊎◌, Result, IfErr, IfOk, true, None}
 use Rattle.sqlite_trees.specs.Tree.{Trees}
 use Rattle.sqlite_trees.specs.View.{IsClean}
 use Rattle.sqlite_trees.specs.declared.store.Store.{Ghosts}
@@ -21,23 +21,21 @@ use Rattle.bsp_store.specs.Meanings.{Holds, SqlBook}
 module _ {S : Type 0} (g : Ghosts S) where
   -- ---- a store with tables
 
-  -- the book has the rows that the tables kept, and they are sound
-  pub record IsFoundIn (h : Held S) (book : SqlBook S) : Type 0 where
+  -- the book has the rows that the tables kept so, and no others, and they are sound
+  pub record IsReadIn (keeps alone : Rows → Trees → Type 0) (h : Held S) (book : SqlBook S) : Type 0 where
     pub rows : Rows
     pub sound : Sound rows
     pub holds : Holds g book rows None
     pub earlier : HasCleanDisk (state g book.conn) → HasCleanDisk (state g h)
-    pub found : HasCleanDisk (state g book.conn) → KeepsBook rows (state g h).now.trees
-    pub only : HasCleanDisk (state g book.conn) → KeepsOnly rows (state g h).now.trees
+    pub found : HasCleanDisk (state g book.conn) → keeps rows (state g h).now.trees
+    pub only : HasCleanDisk (state g book.conn) → alone rows (state g h).now.trees
 
-  -- the same of tables that kept them as a book of an earlier version
-  pub record IsMigratedIn (version : OldVersion) (h : Held S) (book : SqlBook S) : Type 0 where
-    pub rows : Rows
-    pub sound : Sound rows
-    pub holds : Holds g book rows None
-    pub earlier : HasCleanDisk (state g book.conn) → HasCleanDisk (state g h)
-    pub found : HasCleanDisk (state g book.conn) → KeepsOldBook version rows (state g h).now.trees
-    pub only : HasCleanDisk (state g book.conn) → KeepsOnlyOld version rows (state g h).now.trees
+  -- they kept them as a book of this version, or of an earlier one
+  abbrev pub IsFoundIn : Held S → SqlBook S → Type 0
+  IsFoundIn = IsReadIn KeepsBook KeepsOnly
+
+  abbrev pub IsMigratedIn : OldVersion → Held S → SqlBook S → Type 0
+  IsMigratedIn version = IsReadIn (KeepsOldBook version) (KeepsOnlyOld version)
 
   -- a stop leaves of a store that is given up what it left before, or the whole of the book that was migrated
   pub record LeavesMigrated (version : OldVersion) (h : Held S) (left : S) : Type 0 where
@@ -99,3 +97,9 @@ module _ {S : Type 0} (g : Ghosts S) where
   pub record LeavesWhole (h : Held S) (left : S) : Type 0 where
     pub earlier : IsClean (g.view left) → HasCleanDisk (state g h)
     pub leaves : IsClean (g.view left) → (db : Trees) → g.recovers left db → ((db ≡ (state g h).committed.trees) ⊎ g.recovers h.store db) ⊎ IsNewBookOf h db
+
+  -- what is made of a store: a book with its rows, or a fault, for which it was no book and which leaves it whole
+  pub record IsMadeOf (h : Held S) (result : Result (SqlBook S) (OpenFault × S)) : Type 0 where
+    pub adopts : IfOk result (Adopts h)
+    pub refused : IfErr result (λ e. is_refusal e.0 ≡ true → WasNoBook e.0 h e.1)
+    pub left : IfErr result (λ e. LeavesWhole h e.1)

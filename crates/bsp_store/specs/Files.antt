@@ -31,6 +31,10 @@ OpensNone error = (error ≡ SqliteFailure CannotOpen) ⊎ ((error ≡ SqliteFai
 abbrev pub calls_of : calls.Ghosts Host
 calls_of = record { history = λ f. f.log.events }
 
+-- what is answered of a store that was opened, of which the connection shows this, or of the error for which it was not
+abbrev pub Answers : {S : Type 0} → (Held S → Type 0) → (Error → Type 0) → (Held S → Type 0) → (Error → Type 0) → Type 0
+Answers {S} finds fails Opened Unopened = ((conn : Held S) × finds conn × Opened conn) ⊎ ((error : Error) × fails error × Unopened error)
+
 -- whatever was read over a connection, it left to a stop no more than there was
 abbrev pub IsSpared : {S : Type 0} → Ghosts S → Held S → Type 0
 IsSpared {S} g h = (left : Held S) × Spares g h left
@@ -71,4 +75,4 @@ module _ {T : Type 0} (start : starts.Ghosts T) where
 
   -- what is answered of the files: of a connection that shows what they held, or of the error for which they were not opened
   abbrev pub AnswersFiles : (Held StoreFrom → Type 0) → (Error → Type 0) → Type 0
-  AnswersFiles Opened Unopened = ((conn : Held StoreFrom) × FindsFiles conn × Opened conn) ⊎ ((error : Error) × FailsToOpen error × Unopened error)
+  AnswersFiles = Answers FindsFiles FailsToOpen

@@ -1,7 +1,8 @@
 -- What a book in tables contains.
-use Rattle.std.specs.Prelude.{◌≡◌, false, Option, unwrap_or, ⊤}
+use Rattle.std.specs.Prelude.{◌≡◌, Bool, false, true, None, Option, unwrap_or, ⊤}
 use Rattle.sqlite_trees.specs.declared.store.Store.{Ghosts}
 use Rattle.sqlite.specs.Held.{Held}
+use Rattle.sqlite.specs.declared.error.Error.{Error}
 use Rattle.bsp_rows.specs.Rows.{Rows}
 use Rattle.bsp_book.specs.Calls.{Meaning}
 use Rattle.bsp_book.specs.Listed.{meaning as listed}
@@ -9,6 +10,17 @@ use Rattle.bsp_book.specs.declared.list.ListBook.{ListBook}
 use Rattle.bsp_store_open.specs.Formed.{AreFormed}
 use Rattle.bsp_store_open.specs.Opening.{KeepsAtRest}
 use Rattle.bsp_store.specs.declared.book.KeptBook.{KeptBook}
+use Rattle.bsp_store.specs.declared.book.State.{State}
+use Rattle.bsp_store.specs.declared.book.State.TheVariants.{Failed, Works}
+
+-- whether a book has failed, and the error of the store with which it has
+abbrev pub is_over : State → Bool
+is_over Works = false
+is_over (Failed cause) = true
+
+abbrev pub cause_of : State → Option Error
+cause_of Works = None
+cause_of (Failed cause) = cause
 
 -- ---- a book in memory, and what keeps its rows
 
@@ -16,7 +28,7 @@ module _ {L C : Type 0} (m : Meaning L Rows) (keeps : C → Rows → Type 0) whe
   -- the rows now and at `begin` are in memory, their values are such as the program's types have, and those of the last
   -- commit are kept
   pub record IsKeptBook (book : KeptBook L C) (now : Rows) (begun : Option Rows) : Type 0 where
-    pub works : book.failed ≡ false
+    pub works : book.state ≡ Works
     pub listed : m.holds book.list now begun
     pub formed : AreFormed now
     pub was_formed : AreFormed (unwrap_or begun now)
@@ -27,7 +39,7 @@ module _ {L C : Type 0} (m : Meaning L Rows) (keeps : C → Rows → Type 0) whe
     trusts = λ book. ⊤;
     holds = IsKeptBook;
     leaves = λ book a b. leaves book.conn a b;
-    has_failed = λ book. book.failed;
+    has_failed = λ book. is_over book.state;
   }
 
 -- ---- a book in tables of a store

@@ -5,6 +5,7 @@ ghost use Rattle.std.specs.Borrow.{sem};
 ghost use Rattle.bsp_book.specs.Calls.{Commits, FallsBack};
 ghost use Rattle.bsp_rows.specs.Rows.{HasNumberKey, Rows, key_of};
 ghost use Rattle.bsp_store_open.specs.Formed.{IsFormedItem};
+ghost use Rattle.bsp_store.specs.Meanings.{cause_of, is_over};
 
 use crate::keeping::{InMemory, Keeps};
 use bsp_book::{Book, BookFault, ListBook, UsedRange};
@@ -19,6 +20,14 @@ use bsp_store_open::{
 use sqlite::{Connection, Error, ErrorCode};
 use std::alloc::Global;
 
+/// Whether a book can be used.
+#[derive(Clone, Copy)]
+enum State {
+    Works,
+    /// With the error of the store, if it failed with one.
+    Failed(Option<Error>),
+}
+
 /// A book in memory, and what keeps its rows.
 ///
 /// It answers each look-up from memory. A commit keeps what has changed since the last one.
@@ -27,9 +36,7 @@ pub struct KeptBook<L, C> {
     alloc: Global,
     list: L,
     conn: C,
-    failed: bool,
-    // The error of the store with which the book failed, if it was one.
-    cause: Option<Error>,
+    state: State,
 }
 
 /// A book in tables of `sqlite`.
@@ -69,15 +76,13 @@ fn formed_under_key(item: &Item)
 impl<L, C> KeptBook<L, C> {
     /// A book of a list that is kept.
     pub(crate) fn of(alloc: Global, list: L, conn: C) -> KeptBook<L, C>
-        ensures parts { (result.list ≡ list) × (result.conn ≡ conn) × (result.failed ≡ false) }
-        ensures cause { result.cause ≡ None }
+        ensures { (result.list ≡ list) × (result.conn ≡ conn) × (result.state ≡ State.Works) }
     {
         KeptBook {
             alloc,
             list,
             conn,
-            failed: false,
-            cause: None,
+            state: State::Works,
         }
     }
 
@@ -90,9 +95,12 @@ impl<L, C> KeptBook<L, C> {
 
     /// The error of the store with which the book failed. None where it has not failed, or failed without one.
     pub fn cause(&self) -> Option<Error>
-        ensures { result ≡ self.now.cause }
+        ensures { result ≡ cause_of self.now.state }
     {
-        self.cause
+        match self.state {
+            State::Works => None,
+            State::Failed(cause) => cause,
+        }
     }
 }
 
@@ -112,45 +120,42 @@ impl<L: InMemory, C: Keeps<L>> KeptBook<L, C> {
     /// The rows in memory, unless a call has failed.
     fn working(&mut self) -> Result<&mut L, BookFault>
         ensures* lends { sem 𝓛 (LendsList L.row C.row self.entry result) }
-        ensures found { MatchResult result (λ list. (list.now ≡ self.old.list) × (self.old.failed ≡ false)) (λ e. (e ≡ BookFault.Failed) × (self.old.failed ≡ true)) }
+        ensures found { MatchResult result (λ list. (list.now ≡ self.old.list) × (self.old.state ≡ State.Works)) (λ e. (e ≡ BookFault.Failed) × (is_over self.old.state ≡ true)) }
     {
-        if self.failed {
-            return Err(BookFault::Failed);
+        match self.state {
+            State::Works => Ok(&mut self.list),
+            State::Failed(_) => Err(BookFault::Failed),
         }
-        Ok(&mut self.list)
     }
 
     /// Gives up the open transaction after an error of the store. Where the cause was room and the store can still be
     /// used, nothing is left of the transaction. Otherwise the book has failed.
     fn give_up(&mut self, error: Error) -> BookFault
-        ensures full { result ≡ BookFault.NoRoom → (self.new.failed ≡ self.old.failed) × ((last now : Rows) → C.has_stopped self.old.conn last now → C.keeps self.new.conn last) × FallsBack L.Book.means self.old.list self.new.list }
+        ensures full { result ≡ BookFault.NoRoom → (self.new.state ≡ self.old.state) × ((last now : Rows) → C.has_stopped self.old.conn last now → C.keeps self.new.conn last) × FallsBack L.Book.means self.old.list self.new.list }
         ensures room { result ≡ BookFault.NoRoom → (error ≡ Error.SqliteFailure ErrorCode.OutOfMemory) ⊎ (error ≡ Error.SqliteFailure ErrorCode.TooBig) }
-        ensures kept { result ≡ BookFault.NoRoom → self.new.cause ≡ self.old.cause }
-        ensures failed { result ≡ BookFault.Failed → self.new.failed ≡ true }
-        ensures cause { result ≡ BookFault.Failed → self.new.cause ≡ Some error }
+        ensures failed { result ≡ BookFault.Failed → self.new.state ≡ State.Failed (Some error) }
         ensures stop { (last now : Rows) → C.has_stopped self.old.conn last now → C.leaves self.new.conn last now }
     {
         let alive = self.conn.recover();
         if alive && is_room(&error) && self.list.roll_back().is_ok() {
             return BookFault::NoRoom;
         }
-        self.failed = true;
-        self.cause = Some(error);
+        self.state = State::Failed(Some(error));
         BookFault::Failed
     }
 
     /// Keeps in memory what the store has committed. A book whose memory did not would show other rows than its store
     /// has: it has failed.
     fn keep(&mut self) -> Result<(), BookFault>
-        ensures ok { OnOk result ((self.new.failed ≡ self.old.failed) × Commits L.Book.means self.old.list self.new.list) }
-        ensures err { OnErr result (self.new.failed ≡ true) }
+        ensures ok { OnOk result ((self.new.state ≡ self.old.state) × Commits L.Book.means self.old.list self.new.list) }
+        ensures err { OnErr result (self.new.state ≡ State.Failed None) }
         ensures fault { IsOkUnless result BookFault.Failed }
         ensures conn { self.new.conn ≡ self.old.conn }
     {
         match self.list.commit() {
             Ok(()) => Ok(()),
             Err(_) => {
-                self.failed = true;
+                self.state = State::Failed(None);
                 Err(BookFault::Failed)
             }
         }
@@ -167,7 +172,7 @@ impl<L: InMemory, C: Keeps<L>> Book for KeptBook<L, C> {
     ghost wider = { λ book a b one. C.wider book.conn a b one };
 
     fn has_failed(&self) -> bool {
-        self.failed
+        matches!(self.state, State::Failed(_))
     }
 
     fn is_open(&self) -> bool {
@@ -183,7 +188,7 @@ impl<L: InMemory, C: Keeps<L>> Book for KeptBook<L, C> {
     }
 
     fn commit(&mut self) -> Result<(), BookFault> {
-        if self.failed {
+        if self.has_failed() {
             return Err(BookFault::Failed);
         }
         match self.conn.save(self.alloc, &self.list) {

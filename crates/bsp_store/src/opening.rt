@@ -6,7 +6,6 @@ ghost use Rattle.sqlite.specs.Held.{Held, state};
 ghost use Rattle.sqlite.specs.Steps.{over_memory};
 ghost use Rattle.sqlite.specs.State.{HasCleanDisk};
 ghost use Rattle.sqlite.specs.Files.{over_files};
-ghost use Rattle.sqlite.specs.declared.error.Error.{Error as StoreError};
 ghost use Rattle.bsp_rows.specs.Rows.{no_rows};
 ghost use Rattle.bsp_store_open.specs.Schema.{no_schema};
 ghost use Rattle.bsp_store_open.specs.Faults.{fault_for, is_refusal};
@@ -15,20 +14,20 @@ ghost use Rattle.bsp_store_open.specs.Migrating.{IsOld, ShowsNoOldBook};
 ghost use Rattle.bsp_store_open.specs.Old.{old_schema};
 ghost use Rattle.bsp_store_open.specs.declared.old_versions.OldVersion.{OldVersion};
 ghost use Rattle.bsp_store.specs.Meanings.{Holds};
-ghost use Rattle.bsp_store.specs.Adopting.{Adopts, IsFoundIn, IsMigratedIn, LeavesMigrated, LeavesWhole, ShowsNone, WasNoBook};
-ghost use Rattle.bsp_store.specs.Files.{AnswersFiles, FailsToOpen, FindsFiles, IsSpared};
+ghost use Rattle.bsp_store.specs.Adopting.{IsFoundIn, IsMadeOf, IsMigratedIn, LeavesMigrated, ShowsNone};
+ghost use Rattle.bsp_store.specs.Files.{AnswersFiles, IsSpared};
 ghost use Rattle.bsp_store.specs.Openings.{IsOpening, IsOpeningAt, IsOpeningOf};
 
 use crate::book::SqlBook;
 use crate::logged::Logged;
-use crate::on_files::{OnFiles, on_files};
+use crate::on_files::{Files, OnFiles, book_at, on_files};
 use bsp_store_damage::{Damage, find_damage};
 use bsp_store_open::{
     OldVersion, OpenFault, again, empty_list, is_bare, is_ours, kept_list, migrated_list,
     old_version, open_ordered, refusal,
 };
 use bsp_store_save::make_book;
-use sqlite::{Alter, Connection, Error, ErrorCode, FileFrom, FileStore, Leftover, MemStore, Start};
+use sqlite::{Alter, Connection, Error, ErrorCode, FileFrom, FileStore, MemStore, Start};
 use sqlite_trees::store::Store;
 use std::alloc::Global;
 
@@ -119,9 +118,7 @@ fn new_book<S: Alter + Drop>(
 fn opened<S: Alter + Drop>(alloc: Global, conn: Connection<S>) -> Result<SqlBook<S>, (OpenFault, S)>
     requires outside { conn.in_transaction ≡ false }
     requires ordered { AreAllInOrder S.Store conn }
-    ensures ok { IfOk result (λ book. (before : Held S) → Reopens S.Store before conn → Adopts S.Store before book) }
-    ensures refused { IfErr result (λ e. (before : Held S) → Reopens S.Store before conn → is_refusal e.0 ≡ true → WasNoBook S.Store e.0 before e.1) }
-    ensures left { IfErr result (λ e. (before : Held S) → Reopens S.Store before conn → LeavesWhole S.Store before e.1) }
+    ensures { (before : Held S) → Reopens S.Store before conn → IsMadeOf S.Store before result }
 {
     if is_bare(&conn) {
         return new_book(alloc, conn);
@@ -169,7 +166,7 @@ fn without_store<S: Alter + Drop>(
 }
 
 /// Opens the book of a connection that was just opened, if it was. What is left of a store is dropped.
-fn opened_book<S: Alter + Logged + Drop, L: Drop>(
+pub(crate) fn opened_book<S: Alter + Logged + Drop, L: Drop>(
     alloc: Global,
     opened: Result<Connection<S>, (OpenFault, Option<L>)>,
 ) -> Result<SqlBook<S>, OpenFault>
@@ -178,21 +175,6 @@ fn opened_book<S: Alter + Logged + Drop, L: Drop>(
     match opened {
         Ok(conn) => without_store(SqlBook::adopt(alloc, conn)),
         Err((fault, _)) => Err(fault),
-    }
-}
-
-/// Opens the file at a path, with its log beside it. What is left of the files comes with a fault.
-pub(crate) fn files_at<T: Start>(
-    rt: &HostRuntime,
-    path: &str,
-    start: T,
-) -> Result<Connection<FileStore<FileFrom<T>>>, (OpenFault, Option<Leftover<FileFrom<T>>>)>
-    ensures found { IfOk result (FindsFiles T.Start) }
-    ensures cause { IfErr result (λ e. (error : StoreError) × FailsToOpen T.Start error × (e.0 ≡ fault_for error)) }
-{
-    match Connection::open_from(rt, path, false, start) {
-        Ok(conn) => Ok(conn),
-        Err((error, left)) => Err((OpenFault::from(error), left)),
     }
 }
 
@@ -253,8 +235,7 @@ impl<T: Start> SqlBook<FileStore<FileFrom<T>>> {
     ) -> Result<SqlBook<FileStore<FileFrom<T>>>, OpenFault>
         ensures opening { IsOpeningAt T.Start result }
     {
-        let opened = files_at(rt, path, start);
-        opened_book(rt.alloc(), opened)
+        book_at(rt, path, Files(start))
     }
 }
 
@@ -291,5 +272,5 @@ impl OnFiles<Result<Damage, OpenFault>> for Search {
 pub fn damage_at<T: Start>(rt: &HostRuntime, path: &str, start: T) -> Result<Damage, OpenFault>
     ensures search { AnswersFiles T.Start (IsSpared over_files) (λ error. result ≡ Err (fault_for error)) }
 {
-    on_files(rt, path, start, Search)
+    on_files(rt, path, Files(start), Search)
 }

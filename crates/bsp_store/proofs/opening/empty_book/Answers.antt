@@ -8,7 +8,7 @@ use Rattle.bsp_store.proofs.AdoptingLemmas.{book_read}
 use Rattle.bsp_store.proofs.opening.empty_book.Goals as goal
 
 pub returns-in-Ok-clause-ok : goal.returns-in-Ok-clause-ok
-returns-in-Ok-clause-ok g c = book_read g.S.Store c.in_ok-conn.conn c.empty_list.new.conn c.in-Ok.list no_rows (c.in-Ok.ensures.read c.in_ok-conn.ensures.ok.ordered) c.of.result c.of.ensures.parts
+returns-in-Ok-clause-ok g c = book_read g.S.Store c.in_ok-conn.conn c.empty_list.new.conn c.in-Ok.list no_rows c.of.result c.of.ensures (c.in-Ok.ensures.read c.in_ok-conn.ensures.ok.ordered)
 
 pub returns-in_err-conn-clause-left : goal.returns-in_err-conn-clause-left
 returns-in_err-conn-clause-left g c = passed_on (λ e. LeavesCommitted g.S.Store c.args.conn e.1) _ _ c.from_residual.ensures.1 c.in_err-conn.ensures.left
@@ -23,4 +23,4 @@ returns-in-Err-clause-left g c =
 pub returns-in-Ok-clause-earlier : goal.returns-in-Ok-clause-earlier
 returns-in-Ok-clause-earlier g c = λ clean.
     let again = c.in_ok-conn.ensures.ok in
-    again.earlier ((c.in-Ok.ensures.read again.ordered).earlier (subst (λ h. HasCleanDisk (state g.S.Store h)) c.of.ensures.parts.1 clean))
+    again.earlier ((c.in-Ok.ensures.read again.ordered).earlier (subst (λ h. HasCleanDisk (state g.S.Store h)) c.of.ensures.1 clean))

@@ -5,7 +5,7 @@ use Rattle.bsp_store.proofs.AdoptingLemmas.{book_found}
 use Rattle.bsp_store.proofs.opening.kept_book.Goals as goal
 
 pub returns-in-Ok-clause-found : goal.returns-in-Ok-clause-found
-returns-in-Ok-clause-found g c = λ order. book_found g.S.Store c.args.conn c.kept_list.new.conn c.in-Ok.list _ (c.in-Ok.ensures.read order) c.of.result c.of.ensures.parts
+returns-in-Ok-clause-found g c = λ order. book_found g.S.Store c.args.conn c.kept_list.new.conn c.in-Ok.list _ c.of.result c.of.ensures (c.in-Ok.ensures.read order)
 
 pub returns-then-not-is_ours-clause-refused : goal.returns-then-not-is_ours-clause-refused
 returns-then-not-is_ours-clause-refused g c = λ refused clean some young.
