@@ -1,6 +1,7 @@
 -- Lemmas of this crate.
 pub mod SeekLemmas
 pub mod StepLemmas
+pub mod TurnLemmas
 pub mod TalkLemmas
 pub mod ServeLemmas
 pub mod ProgressLemmas

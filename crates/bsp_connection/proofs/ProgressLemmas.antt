@@ -7,12 +7,12 @@ use Rattle.bsp_connection.specs.Exchanges.{Meaning, Reading}
 use Rattle.bsp_connection.specs.Progress.{IsAtRest, IsFurther, IsOn, most_to_come, to_come}
 use Rattle.bsp_connection.specs.Steps.{Goes, IsOpen, WasRead, WasStep}
 use Rattle.bsp_connection.specs.Talks.{HasTaken, IsLike, IsSame, IsSent, Moves, Talks}
-use Rattle.bsp_connection.specs.declared.begun.Begun.{Begun}
+use Rattle.bsp_connection.specs.declared.connection.Begun.{Begun}
 use Rattle.bsp_connection.specs.declared.connection.Connection.{Connection}
-use Rattle.bsp_connection.specs.declared.end.End.{End}
-use Rattle.bsp_connection.specs.declared.end.End.TheVariants.{Clean, Cut, Closed}
-use Rattle.bsp_connection.specs.declared.end.ServeFault.{ServeFault}
-use Rattle.bsp_connection.specs.declared.end.ServeFault.TheVariants.{Read, Write, Memory}
+use Rattle.bsp_connection.specs.declared.serving.End.{End}
+use Rattle.bsp_connection.specs.declared.serving.End.TheVariants.{Clean, Cut, Closed}
+use Rattle.bsp_connection.specs.declared.serving.ServeFault.{ServeFault}
+use Rattle.bsp_connection.specs.declared.serving.ServeFault.TheVariants.{Read, Write, Memory}
 
 -- ---- less is to come
 

@@ -11,15 +11,15 @@ use Rattle.bsp_connection.specs.Exchanges.{Exchange, Meaning, Reading, does, inq
 use Rattle.bsp_connection.specs.Messages.{Left, left, texts}
 use Rattle.bsp_connection.specs.Serving.{Answered, Conversation, EndsBy, MayHaveBegun, Reaches, Serves}
 use Rattle.bsp_connection.specs.Talks.{IsFresh, Talks}
-use Rattle.bsp_connection.specs.declared.begun.Begun.{Begun}
+use Rattle.bsp_connection.specs.declared.connection.Begun.{Begun}
 use Rattle.bsp_connection.specs.declared.connection.Connection.{Connection}
 use Rattle.bsp_heads.specs.declared.scan.Scan.{Scan}
 use Rattle.bsp_connection.specs.Ends.{IsInputEnd}
 use Rattle.bsp_connection.specs.Steps.{WasStep}
-use Rattle.bsp_connection.specs.declared.end.End.{End}
-use Rattle.bsp_connection.specs.declared.end.ServeFault.{ServeFault}
-use Rattle.bsp_connection.specs.declared.end.End.TheVariants.{Clean, Cut, Closed}
-use Rattle.bsp_connection.specs.declared.end.ServeFault.TheVariants.{Read, Write, Memory}
+use Rattle.bsp_connection.specs.declared.serving.End.{End}
+use Rattle.bsp_connection.specs.declared.serving.ServeFault.{ServeFault}
+use Rattle.bsp_connection.specs.declared.serving.End.TheVariants.{Clean, Cut, Closed}
+use Rattle.bsp_connection.specs.declared.serving.ServeFault.TheVariants.{Read, Write, Memory}
 
 some_byte : (b : ℕ) (bytes : List ℕ) → b ∷ bytes ≡ [] → ⊥
 some_byte b bytes e = cc
@@ -104,7 +104,7 @@ module _ {D F B : Type 0} (m : Meaning D) (r : Reading F B) where
         let front : List ℕ = take b.head c.received.items in
         let tail : List ℕ = h.came ++ drop b.head c.received.items in
         let all : t.rest ++ more ≡ front ++ (tail ++ more) = ap (λ (l : List ℕ). l ++ more) h.is ∙ append_assoc front tail more in
-        inr (still, (b.head, h.read.parts_are.0, b.parts.wanted, subst (λ (l : List ℕ). HasHead l b.head h.read.parts_are.0 b.parts.wanted) (sym all) (has_head c.received.items (tail ++ more) b.head b.parts h.read), refl, ap (inquiry b.parts.wanted.expects) (same_head front b.parts h.read.parts_are)))
+        inr (still, (b.head, h.headed.read.parts_are.0, b.parts.wanted, subst (λ (l : List ℕ). HasHead l b.head h.headed.read.parts_are.0 b.parts.wanted) (sym all) (has_head c.received.items (tail ++ more) b.head b.parts h.headed.read), refl, ap (inquiry b.parts.wanted.expects) (same_head front b.parts h.headed.read.parts_are)))
   ]
 
   reaches : (got sent more : List ℕ) (xs : List Exchange) (c : Connection F B) (old new : D) → Talks m r got xs sent c → (c.closed ≡ true → c.begun ≡ None) → c.out.bytes ≢ [] → IsRun m old xs new → Reaches m (got ++ more) old xs (sent ++ c.out.bytes) new

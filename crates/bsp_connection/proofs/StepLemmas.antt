@@ -1,12 +1,11 @@
 -- One step of a connection.
-use Rattle.std.proofs.Common.{◌≡◌, ◌⊎◌, inl, inr, ℕ, ◌+◌, ◌-◌, ◌<◌, ◌≤◌, Bool, true, false, ◌||◌, ◌==◌, List, [], ◌∷◌, ◌++◌, length, take, drop, Option, Some, None, is_some, refl, sym, ap, ◌∙◌, subst, append_assoc, append-nil, length-append, arith, eqb, min, length-drop, IfSome}
+use Rattle.std.proofs.Common.{◌≡◌, ◌⊎◌, inl, inr, ℕ, ◌+◌, ◌-◌, ◌<◌, ◌≤◌, Bool, true, false, ◌||◌, ◌==◌, List, [], ◌∷◌, ◌++◌, length, take, drop, Option, Some, None, Result, Ok, Err, IfOk, is_some, refl, sym, ap, ◌∙◌, subst, append_assoc, append-nil, length-append, arith, eqb, min, length-drop, IfSome}
 use Rattle.std.proofs.lemmas.Bool.{false≢true}
 use Rattle.std.proofs.lemmas.Bool.Decides.{eqb_tells}
 use Rattle.std.proofs.Math.Seq.{take-append_seam, take-length, drop-append_seam}
 use Rattle.std.proofs.lemmas.Grind.{flat_map-append}
 use Rattle.std.proofs.lemmas.List.{drop-drop, drop_all, length-take-le, take-append-drop}
 use Rattle.std.specs.List.{FoldsTo}
-use Rattle.std.specs.Option.{IsSome, option_map}
 use Rattle.httparse.specs.Spans.{IsWithin, span_bytes}
 use Rattle.bsp_heads.proofs.BodyLemmas.{body_limited}
 use Rattle.bsp_heads.proofs.ScanLemmas.{head_len-more, head_len-le}
@@ -17,17 +16,17 @@ use Rattle.bsp_heads.specs.Responses.{refusal_reply, response}
 use Rattle.bsp_heads.specs.Scan.{HasScanned, head_len}
 use Rattle.bsp_heads.specs.declared.fault.Refused.{Refused}
 use Rattle.bsp_heads.specs.declared.parts.HeadParts.{HeadParts}
-use Rattle.bsp_connection.specs.Exchanges.{Exchange, Meaning, Reading, RequestText, does, head_of, inquiry, interim, used}
+use Rattle.bsp_connection.specs.Exchanges.{Exchange, Meaning, Reading, RequestText, does, inquiry, interim, used}
 use Rattle.bsp_connection.specs.Exchanges.Exchange.{wants, replies}
 use Rattle.bsp_connection.specs.Conversations.{HasHead, HasMessage, HasRefusal, IsRun, head_text, message_limit}
 use Rattle.bsp_connection.proofs.SeekLemmas.{exact}
-use Rattle.bsp_connection.specs.Begun.{HasBegun, HasBody, HasUnread, IsBegunAs, IsFound, IsRead, IsSought, asked_early, head_in, pending}
+use Rattle.bsp_connection.specs.Begun.{HasBegun, HasBody, HasUnread, IsBegunAs, IsHeaded, IsRead, IsSought, asked_early, head_in, pending, request_in}
 use Rattle.bsp_connection.specs.Messages.{Item, Takes, asked, item, left, texts}
 use Rattle.bsp_connection.specs.Messages.Takes.{answered, refused, unroomed, unwanted}
 use Rattle.bsp_connection.specs.Outputs.{Put}
 use Rattle.bsp_connection.specs.Progress.{IsAtRest, IsFurther, to_come}
 use Rattle.bsp_connection.specs.Talks.{HasPassed, IsAnswered, Moves}
-use Rattle.bsp_connection.specs.declared.begun.Begun.{Begun}
+use Rattle.bsp_connection.specs.declared.connection.Begun.{Begun}
 use Rattle.bsp_connection.specs.declared.connection.Connection.{Connection}
 
 -- ---- texts
@@ -58,12 +57,20 @@ behind_asked {F} o p b received rest text head xs some gone same =
 
 -- ---- heads
 
--- a head as its parts have it is the request of the head
+-- a request, by its parts
+abbrev pub request : List ℕ → List ℕ → Option (List ℕ) → List ℕ → RequestText
+request method target token body = record { method = method; target = target; token = token; body = body }
+
+pub same_request : (m1 m2 t1 t2 b1 b2 : List ℕ) (k1 k2 : Option (List ℕ)) → m1 ≡ m2 → t1 ≡ t2 → k1 ≡ k2 → b1 ≡ b2 → request m1 t1 k1 b1 ≡ request m2 t2 k2 b2
+same_request m1 m2 t1 t2 b1 b2 k1 k2 e f g h =
+    ap (λ (x : List ℕ). request x t1 k1 b1) e ∙ ap (λ (x : List ℕ). request m2 x k1 b1) f ∙ ap (λ (x : Option (List ℕ)). request m2 t2 x b1) g ∙ ap (λ (x : List ℕ). request m2 t2 k2 x) h
+
+-- a request as the parts of its head have it is the request of the head
+whole_request : (head : List ℕ) (parts : HeadParts) (are : AreParts head parts) (body other : List ℕ) → body ≡ other → request_in head parts body ≡ request are.0.method are.0.target (token_of (headers_of are.0)) other
+whole_request head parts are body other same = same_request _ _ _ _ _ _ _ _ are.3 are.4 are.5 same
+
 pub same_head : (head : List ℕ) (parts : HeadParts) (are : AreParts head parts) → head_in head parts ≡ head_text are.0
-same_head head parts are =
-    ap (λ (l : List ℕ). record { method = l; target = span_bytes head parts.target; token = option_map (span_bytes head) parts.token; body = [] }) are.3
-    ∙ ap (λ (l : List ℕ). record { method = are.0.method; target = l; token = option_map (span_bytes head) parts.token; body = [] }) are.4
-    ∙ ap (λ (o : Option (List ℕ)). record { method = are.0.method; target = are.0.target; token = o; body = [] }) are.5
+same_head head parts are = whole_request head parts are [] [] refl
 
 pub front_of : (a b : List ℕ) (n : ℕ) → length a ≡ n → take n (a ++ b) ≡ a
 front_of a b n e = subst (λ (m : ℕ). take m (a ++ b) ≡ a) e (take-append_seam a b)
@@ -97,6 +104,13 @@ read_in received whole len parts front within read = record {
   token = read.token;
 }
 
+-- the same with what was found for it
+pub headed_in : {F B : Type 0} (r : Reading F B) (received whole : List ℕ) (b : Begun F) → take b.head whole ≡ take b.head received → b.head ≤ length whole → IsHeaded r received b → IsHeaded r whole b
+headed_in r received whole b front within h = record {
+  read = read_in received whole b.head b.parts front within h.read;
+  finds = subst (λ (l : List ℕ). r.finds (span_bytes l b.parts.method) (span_bytes l b.parts.target) b.found) (sym front) h.finds;
+}
+
 -- the head is at the front of whatever comes after it
 pub has_head : (received more : List ℕ) (len : ℕ) (parts : HeadParts) (read : IsRead received len parts) → HasHead (take len received ++ more) len read.parts_are.0 parts.wanted
 has_head received more len parts read =
@@ -127,15 +141,9 @@ part_of received head left count within is =
       ];
     }
 
-pub the_some : {A : Type 0} (o : Option A) → IsSome o → (a : A) × (o ≡ Some a)
-the_some None none = absurd (false≢true none)
-the_some (Some a) some = (a, refl)
-
-pub in_some : {A : Type 0} (o : Option A) (a : A) (P : A → Type 0) → o ≡ Some a → IfSome o P → P a
-in_some o a P is has = subst (λ (v : Option _). IfSome v P) is has
-
-pub if_some : {A : Type 0} (o : Option A) (a : A) (P : A → Type 0) → o ≡ Some a → P a → IfSome o P
-if_some o a P is has = subst (λ (v : Option _). IfSome v P) (sym is) has
+pub if_ok_on : {A E : Type 0} {P Q : A → Type 0} (r : Result A E) → ((a : A) → P a → Q a) → IfOk r P → IfOk r Q
+if_ok_on (Ok a) f p = f a p
+if_ok_on (Err e) f p = p
 
 -- what takes a body has nothing of it yet
 pub fresh_body : {F B : Type 0} (r : Reading F B) (found : F) (o : Option B) → IfSome o (λ body. r.has found body []) → HasBody r found o []
@@ -185,39 +193,37 @@ module _ {D F B : Type 0} (m : Meaning D) (r : Reading F B) where
       }
 
   -- a head alone is answered
-  pub unwanted_moves : (old new : Connection F B) (d e f : D) (len : ℕ) (parts : HeadParts) (reply : ReplyText) (head : ℕ) → IsRead old.received.items len parts → parts.wanted.expects ≡ true → old.begun ≡ None → old.closed ≡ false
-      → m.admits d (head_in (take len old.received.items) parts) false e → m.steps e (head_in (take len old.received.items) parts) reply f
-      → IsAnswered head (response parts.wanted.bare true reply) true old new → Moves m r old new d f
-  unwanted_moves old new d e f len parts reply head read expects none unclosed admits steps a unread was =
+  pub unwanted_moves : (old new : Connection F B) (d e f : D) (b : Begun F) (reply : ReplyText) (head : ℕ) → IsRead old.received.items b.head b.parts → b.parts.wanted.expects ≡ true → old.begun ≡ None → old.closed ≡ false
+      → m.admits d (head_in (take b.head old.received.items) b.parts) false e → m.steps e (head_in (take b.head old.received.items) b.parts) reply f
+      → IsAnswered head (response b.parts.wanted.bare true reply) true old new → Moves m r old new d f
+  unwanted_moves old new d e f b reply head read expects none unclosed admits steps a unread was =
       let s = sought old unread unclosed none was in
-      let front : List ℕ = take len old.received.items in
       let are = read.parts_are in
-      let same = same_head front parts are in
-      let text : List ℕ = response parts.wanted.bare true reply in
+      let same = same_head (take b.head old.received.items) b.parts are in
+      let text : List ℕ = response b.parts.wanted.bare true reply in
       let xs : List Exchange = wants (head_text are.0) false ∷ replies (head_text are.0) reply ∷ [] in
-      let there = subst (λ (l : List ℕ). HasHead l len are.0 parts.wanted) (take-append-drop len old.received.items ∙ sym s.1.is) (has_head old.received.items (drop len old.received.items) len parts read) in record {
+      let there = subst (λ (l : List ℕ). HasHead l b.head are.0 b.parts.wanted) (take-append-drop b.head old.received.items ∙ sym s.1.is) (has_head old.received.items (drop b.head old.received.items) b.head b.parts read) in record {
         items = item xs text ∷ [];
         rest = new.received.items;
         more = text;
         exchanges = xs;
         run = (e, subst (λ (h : RequestText). m.admits d h false e) same admits, (f, subst (λ (h : RequestText). m.steps e h reply f) same steps, refl));
         asked_are = alone_asked old.begun new.begun old.received.items new.received.items text xs none a.begun;
-        taken = (left new.count new.received.items new.closed, unwanted len are.0 parts.wanted reply unclosed there expects refl a.count a.closed, refl);
+        taken = (left new.count new.received.items new.closed, unwanted b.head are.0 b.parts.wanted reply unclosed there expects refl a.count a.closed, refl);
         has = closed_has new new.received.items a.closed;
         out = a.out;
         text = alone old.begun new.begun xs text none a.begun;
       }
 
   -- a message is begun
-  pub begun_moves : (old new : Connection F B) (d e : D) (b : Begun F) → IsRead old.received.items b.head b.parts → IsFound r m.uses (take b.head old.received.items) b.parts b.found (is_some new.body) → b.left ≡ b.parts.wanted.body → old.begun ≡ None
+  pub begun_moves : (old new : Connection F B) (d e : D) (b : Begun F) → IsHeaded r old.received.items b → m.uses (span_bytes (take b.head old.received.items) b.parts.method) (span_bytes (take b.head old.received.items) b.parts.target) (is_some new.body) → b.left ≡ b.parts.wanted.body → old.begun ≡ None
       → old.closed ≡ false → new.received.items ≡ old.received.items → new.begun ≡ Some b → new.count ≡ old.count → new.closed ≡ old.closed → new.has_more ≡ true → HasBody r b.found new.body []
       → new.out.bytes ≡ old.out.bytes ++ interim b.parts.wanted.expects → IsRun m d (inquiry b.parts.wanted.expects (head_in (take b.head old.received.items) b.parts)) e → Moves m r old new d e
-  begun_moves old new d e b read found all none unclosed same begun count closed more body out run unread was =
+  begun_moves old new d e b headed is_used all none unclosed same begun count closed more body out run unread was =
       let s = sought old unread unclosed none was in
-      let parts : List ℕ = take b.head old.received.items ++ ([] ++ drop b.head old.received.items) in
       let has : IsBegunAs r m.uses b old.received.items new.body new.has_more unread = record {
-        read = read;
-        found = found;
+        headed = headed;
+        is_used = is_used;
         came = [];
         is = s.1.is ∙ sym (take-append-drop b.head old.received.items);
         sized = omega (arith, all);
@@ -300,11 +306,11 @@ module _ {D F B : Type 0} (m : Meaning D) (r : Reading F B) where
       → IsBegunAs r m.uses (record { head = b.head; parts = b.parts; found = b.found; left = b.left - length p.piece }) (take b.head old.received.items ++ p.rest) new.body new.has_more unread
   more_body b now old new unread p h =
       let front : List ℕ = take b.head old.received.items in
-      let size : length front ≡ b.head = length-take-le b.head old.received.items h.read.within in
+      let size : length front ≡ b.head = length-take-le b.head old.received.items h.headed.read.within in
       let same : take b.head (front ++ p.rest) ≡ front = front_of front p.rest b.head size in
       let after : drop b.head (front ++ p.rest) ≡ p.rest = back_of front p.rest b.head size in record {
-        read = read_in old.received.items (front ++ p.rest) b.head b.parts same (omega (arith, length-append front p.rest, size)) h.read;
-        found = subst (λ (l : List ℕ). IsFound r m.uses l b.parts b.found (is_some new.body)) (sym same) (subst (λ (t : Bool). IsFound r m.uses front b.parts b.found t) (sym p.is_used) h.found);
+        headed = let k = headed_in r old.received.items (front ++ p.rest) b same (omega (arith, length-append front p.rest, size)) h.headed in record { read = k.read; finds = k.finds };
+        is_used = subst (λ (l : List ℕ). m.uses (span_bytes l b.parts.method) (span_bytes l b.parts.target) (is_some new.body)) (sym same) (subst (λ (t : Bool). m.uses (span_bytes front b.parts.method) (span_bytes front b.parts.target) t) (sym p.is_used) h.is_used);
         came = h.came ++ p.piece;
         is = h.is ∙ ap (λ (l : List ℕ). front ++ (h.came ++ l)) p.behind ∙ ap (λ (l : List ℕ). front ++ l) (sym (append_assoc h.came p.piece p.rest)) ∙ ap (λ (l : List ℕ). front ++ ((h.came ++ p.piece) ++ l)) (sym after)
             ∙ ap (λ (l : List ℕ). l ++ ((h.came ++ p.piece) ++ drop b.head (front ++ p.rest))) (sym same);
@@ -344,7 +350,7 @@ module _ {D F B : Type 0} (m : Meaning D) (r : Reading F B) where
     more = [];
     exchanges = [];
     run = refl;
-    asked_are = append-nil (asked_early old.begun old.received.items) ∙ same_asked b now old new some (within old unread b unclosed some was).1.read.within p;
+    asked_are = append-nil (asked_early old.begun old.received.items) ∙ same_asked b now old new some (within old unread b unclosed some was).1.headed.read.within p;
     taken = ap (λ (n : ℕ). left n unread old.closed) (sym p.count) ∙ ap (λ (t : Bool). left new.count unread t) (sym p.closed);
     has = passed_has b now old new unread some unclosed p was;
     out = ap (λ (o : Put). o.bytes) p.out ∙ sym (append-nil old.out.bytes);
@@ -352,8 +358,8 @@ module _ {D F B : Type 0} (m : Meaning D) (r : Reading F B) where
   }
 
   -- whether a body is used, by the method and the target of the head
-  uses_of : (b : Begun F) (head : List ℕ) (is_used : Bool) (are : AreParts head b.parts) → IsFound r m.uses head b.parts b.found is_used → m.uses are.0.method are.0.target is_used
-  uses_of b head is_used are found = subst (λ (l : List ℕ). m.uses l are.0.target is_used) are.3 (subst (λ (l : List ℕ). m.uses (span_bytes head b.parts.method) l is_used) are.4 found.1)
+  uses_of : (b : Begun F) (head : List ℕ) (is_used : Bool) (are : AreParts head b.parts) → m.uses (span_bytes head b.parts.method) (span_bytes head b.parts.target) is_used → m.uses are.0.method are.0.target is_used
+  uses_of b head is_used are used = subst (λ (l : List ℕ). m.uses l are.0.target is_used) are.3 (subst (λ (l : List ℕ). m.uses (span_bytes head b.parts.method) l is_used) are.4 used)
 
   -- there was no memory for the body
   pub unroomed_moves : (b : Begun F) (old mid new : Connection F B) (d : D) (head : ℕ) → old.begun ≡ Some b → old.closed ≡ false → is_some old.body ≡ true
@@ -362,9 +368,9 @@ module _ {D F B : Type 0} (m : Meaning D) (r : Reading F B) where
   unroomed_moves b old mid new d head some unclosed used body out count a unread was =
       let h = (within old unread b unclosed some was).1 in
       let text : List ℕ = response b.parts.wanted.bare true m.no_room in
-      let are = h.read.parts_are in
-      let there = subst (λ (l : List ℕ). HasHead l b.head are.0 b.parts.wanted) (sym h.is) (has_head old.received.items (h.came ++ drop b.head old.received.items) b.head b.parts h.read) in
-      let uses : m.uses are.0.method are.0.target true = subst (λ (t : Bool). m.uses are.0.method are.0.target t) used (uses_of b (take b.head old.received.items) (is_some old.body) are h.found) in record {
+      let are = h.headed.read.parts_are in
+      let there = subst (λ (l : List ℕ). HasHead l b.head are.0 b.parts.wanted) (sym h.is) (has_head old.received.items (h.came ++ drop b.head old.received.items) b.head b.parts h.headed.read) in
+      let uses : m.uses are.0.method are.0.target true = subst (λ (t : Bool). m.uses are.0.method are.0.target t) used (uses_of b (take b.head old.received.items) (is_some old.body) are h.is_used) in record {
         items = item (inquiry b.parts.wanted.expects (head_text are.0)) (interim b.parts.wanted.expects ++ text) ∷ [];
         rest = new.received.items;
         more = text;
@@ -384,23 +390,14 @@ module _ {D F B : Type 0} (m : Meaning D) (r : Reading F B) where
 
   -- ---- answers
 
-  -- a request, as a message has it
-  abbrev pub request : List ℕ → List ℕ → Option (List ℕ) → List ℕ → RequestText
-  request method target token body = record { method = method; target = target; token = token; body = body }
-
-  same_request : (m1 m2 t1 t2 b1 b2 : List ℕ) (k1 k2 : Option (List ℕ)) → m1 ≡ m2 → t1 ≡ t2 → k1 ≡ k2 → b1 ≡ b2 → request m1 t1 k1 b1 ≡ request m2 t2 k2 b2
-  same_request m1 m2 t1 t2 b1 b2 k1 k2 e f g h =
-      ap (λ (x : List ℕ). request x t1 k1 b1) e ∙ ap (λ (x : List ℕ). request m2 x k1 b1) f ∙ ap (λ (x : Option (List ℕ)). request m2 t2 x b1) g ∙ ap (λ (x : List ℕ). request m2 t2 k2 x) h
-
   -- the message is whole
-  has_message : (b : Begun F) (c : Connection F B) (unread : List ℕ) (method target : List ℕ) (token : Option (List ℕ)) → b.left ≡ 0 → (h : IsBegunAs r m.uses b c.received.items c.body c.has_more unread)
-      → method ≡ span_bytes (take b.head c.received.items) b.parts.method → target ≡ span_bytes (take b.head c.received.items) b.parts.target → token ≡ option_map (span_bytes (take b.head c.received.items)) b.parts.token
-      → HasMessage m unread (request method target token (used (is_some c.body) h.came)) b.parts.wanted (drop b.head c.received.items)
-  has_message b c unread method target token whole h em et ek =
+  has_message : (b : Begun F) (c : Connection F B) (unread : List ℕ) → b.left ≡ 0 → (h : IsBegunAs r m.uses b c.received.items c.body c.has_more unread)
+      → HasMessage m unread (request_in (take b.head c.received.items) b.parts (used (is_some c.body) h.came)) b.parts.wanted (drop b.head c.received.items)
+  has_message b c unread whole h =
       let front : List ℕ = take b.head c.received.items in
       let rest : List ℕ = drop b.head c.received.items in
-      let size : length front ≡ b.head = length-take-le b.head c.received.items h.read.within in
-      let are = h.read.parts_are in
+      let size : length front ≡ b.head = length-take-le b.head c.received.items h.headed.read.within in
+      let are = h.headed.read.parts_are in
       let sized : length h.came ≡ b.parts.wanted.body = omega (arith, h.sized, whole) in
       let after : drop b.head unread ≡ h.came ++ rest = ap (drop b.head) h.is ∙ back_of front (h.came ++ rest) b.head size in
       let both : drop (b.head + b.parts.wanted.body) unread ≡ rest
@@ -409,12 +406,11 @@ module _ {D F B : Type 0} (m : Meaning D) (r : Reading F B) where
       record {
         len = b.head;
         head = are.0;
-        has = subst (λ (l : List ℕ). HasHead l b.head are.0 b.parts.wanted) (sym h.is) (has_head c.received.items (h.came ++ rest) b.head b.parts h.read);
+        has = subst (λ (l : List ℕ). HasHead l b.head are.0 b.parts.wanted) (sym h.is) (has_head c.received.items (h.came ++ rest) b.head b.parts h.headed.read);
         is_used = is_some c.body;
-        use_is = uses_of b front (is_some c.body) are h.found;
+        use_is = uses_of b front (is_some c.body) are h.is_used;
         whole = omega (arith, ap (λ (l : List ℕ). length l) h.is, length-append front (h.came ++ rest), length-append h.came rest, size, sized);
-        request_is = same_request method are.0.method target are.0.target (used (is_some c.body) h.came) (used (is_some c.body) (take b.parts.wanted.body (drop b.head unread))) token (token_of (headers_of are.0))
-            (em ∙ are.3) (et ∙ are.4) (ek ∙ are.5) (ap (used (is_some c.body)) body);
+        request_is = whole_request front b.parts are (used (is_some c.body) h.came) (used (is_some c.body) (take b.parts.wanted.body (drop b.head unread))) (ap (used (is_some c.body)) body);
         rest_is = sym both;
       }
 
@@ -443,28 +439,26 @@ module _ {D F B : Type 0} (m : Meaning D) (r : Reading F B) where
       )
 
   -- the message is answered
-  pub answered_moves : (b : Begun F) (old mid new : Connection F B) (d e : D) (method target : List ℕ) (token : Option (List ℕ)) (reply : ReplyText) (closes : Bool) → old.begun ≡ Some b → old.closed ≡ false → b.left ≡ 0
-      → method ≡ span_bytes (take b.head old.received.items) b.parts.method → target ≡ span_bytes (take b.head old.received.items) b.parts.target → token ≡ option_map (span_bytes (take b.head old.received.items)) b.parts.token
-      → ((bytes : List ℕ) → HasBody r b.found old.body bytes → m.steps d (request method target token (used (is_some old.body) bytes)) reply e)
+  pub answered_moves : (b : Begun F) (old mid new : Connection F B) (d e : D) (reply : ReplyText) (closes : Bool) → old.begun ≡ Some b → old.closed ≡ false → b.left ≡ 0
+      → ((bytes : List ℕ) → HasBody r b.found old.body bytes → m.steps d (request_in (take b.head old.received.items) b.parts (used (is_some old.body) bytes)) reply e)
       → closes ≡ (b.parts.wanted.closes || old.count + 1 == 65536) → mid.received.items ≡ old.received.items → mid.out ≡ old.out → mid.count ≡ old.count
       → IsAnswered b.head (response b.parts.wanted.bare closes reply) closes mid new → Moves m r old new d e
-  answered_moves b old mid new d e method target token reply closes some unclosed whole em et ek steps closes_is same out count a unread was =
+  answered_moves b old mid new d e reply closes some unclosed whole steps closes_is same out count a unread was =
       let h = within old unread b unclosed some was in
       let text : List ℕ = response b.parts.wanted.bare closes reply in
-      let asks : RequestText = request method target token (used (is_some old.body) h.1.came) in
       let front : List ℕ = take b.head old.received.items in
-      let head : head_in front b.parts ≡ head_of asks = sym (same_request method (span_bytes front b.parts.method) target (span_bytes front b.parts.target) [] [] token (option_map (span_bytes front) b.parts.token) em et ek refl) in
-      let xs : List Exchange = inquiry b.parts.wanted.expects (head_of asks) ++ replies asks reply ∷ [] in
+      let asks : RequestText = request_in front b.parts (used (is_some old.body) h.1.came) in
+      let xs : List Exchange = inquiry b.parts.wanted.expects (head_in front b.parts) ++ replies asks reply ∷ [] in
       let rest : new.received.items ≡ drop b.head old.received.items = a.received ∙ ap (drop b.head) same in
       let counted : new.count ≡ old.count + 1 = a.count ∙ ap (λ (n : ℕ). n + 1) count in
-      let message = subst (λ (l : List ℕ). HasMessage m unread asks b.parts.wanted l) (sym rest) (has_message b old unread method target token whole h.1 em et ek) in
+      let message = subst (λ (l : List ℕ). HasMessage m unread asks b.parts.wanted l) (sym rest) (has_message b old unread whole h.1) in
       let closed : new.closed ≡ (b.parts.wanted.closes || new.count == message_limit) = a.closed ∙ closes_is ∙ ap (λ (n : ℕ). b.parts.wanted.closes || n == 65536) (sym counted) in record {
         items = item xs (interim b.parts.wanted.expects ++ text) ∷ [];
         rest = new.received.items;
         more = text;
         exchanges = replies asks reply ∷ [];
         run = (e, steps h.1.came h.1.has, refl);
-        asked_are = behind_asked old.begun new.begun b old.received.items new.received.items text (head_of asks) (replies asks reply ∷ []) some a.begun head;
+        asked_are = behind_asked old.begun new.begun b old.received.items new.received.items text (head_in front b.parts) (replies asks reply ∷ []) some a.begun refl;
         taken = (
           left new.count new.received.items new.closed,
           answered asks reply b.parts.wanted unclosed message (ap (λ (t : Bool). item xs (interim b.parts.wanted.expects ++ response b.parts.wanted.bare t reply)) (sym a.closed)) counted closed,

@@ -4,6 +4,7 @@ use Rattle.std.proofs.lemmas.Bool.{cases_Bool, false≢true}
 use Rattle.std.proofs.lemmas.List.{drop-append-le, drop_all, length-take-le, take-append-le}
 use Rattle.std.proofs.lemmas.Grind.{flat_map-append}
 use Rattle.httparse.specs.Grammar.{RequestHead}
+use Rattle.httparse.specs.Spans.{span_bytes}
 use Rattle.bsp_heads.proofs.ScanLemmas.{head_len-le, head_len-more}
 use Rattle.bsp_heads.specs.Head.{IsHead, Refuses, headers_of}
 use Rattle.bsp_heads.specs.Fields.{token_of}
@@ -13,13 +14,13 @@ use Rattle.bsp_heads.specs.declared.parts.Wanted.{Wanted}
 use Rattle.bsp_heads.specs.declared.scan.Scan.{Scan}
 use Rattle.bsp_connection.specs.Exchanges.{Exchange, Meaning, Reading, RequestText, inquiry, interim, used}
 use Rattle.bsp_connection.specs.Conversations.{HasHead, HasMessage, HasRefusal, IsBegun, IsRun, message_limit}
-use Rattle.bsp_connection.proofs.StepLemmas.{folds_on, has_head, read_in, same_head}
-use Rattle.bsp_connection.specs.Begun.{HasBegun, HasUnread, IsBegunAs, IsFound, asked_early, head_in, IsSought, pending}
+use Rattle.bsp_connection.proofs.StepLemmas.{folds_on, has_head, headed_in, same_head}
+use Rattle.bsp_connection.specs.Begun.{HasBegun, HasUnread, IsBegunAs, asked_early, head_in, IsSought, pending}
 use Rattle.bsp_connection.specs.Messages.{AreTaken, Item, Left, Takes, asked, left, texts}
 use Rattle.bsp_connection.specs.Messages.Takes.{answered, refused, unroomed, unwanted}
 use Rattle.bsp_connection.specs.Outputs.{Put}
 use Rattle.bsp_connection.specs.Talks.{HasTaken, IsFresh, IsLike, IsSame, IsSent, Moves, Rests, Talks}
-use Rattle.bsp_connection.specs.declared.begun.Begun.{Begun}
+use Rattle.bsp_connection.specs.declared.connection.Begun.{Begun}
 use Rattle.bsp_connection.specs.declared.connection.Connection.{Connection}
 
 -- ---- messages stay what they are, whatever comes after them
@@ -87,11 +88,11 @@ sought_more received piece scan seen before unread s =
 module _ {F B : Type 0} (r : Reading F B) (uses : List ℕ → List ℕ → Bool → Type 0) where
   begun_more : (b : Begun F) (received piece : List ℕ) (body : Option B) (before : Bool) (unread : List ℕ) → IsBegunAs r uses b received body before unread → IsBegunAs r uses b (received ++ piece) body true (unread ++ piece)
   begun_more b received piece body before unread h =
-      let within = h.read.within in
+      let within = h.headed.read.within in
       let front : take b.head (received ++ piece) ≡ take b.head received = take-append-le b.head received piece within in
       let after : drop b.head (received ++ piece) ≡ drop b.head received ++ piece = drop-append-le b.head received piece within in record {
-        read = read_in received (received ++ piece) b.head b.parts front (omega (arith, within, length-append received piece)) h.read;
-        found = subst (λ (l : List ℕ). IsFound r uses l b.parts b.found (is_some body)) (sym front) h.found;
+        headed = headed_in r received (received ++ piece) b front (omega (arith, within, length-append received piece)) h.headed;
+        is_used = subst (λ (l : List ℕ). uses (span_bytes l b.parts.method) (span_bytes l b.parts.target) (is_some body)) (sym front) h.is_used;
         came = h.came;
         is = ap (λ (l : List ℕ). l ++ piece) h.is ∙ append_assoc (take b.head received) (h.came ++ drop b.head received) piece ∙ ap (λ (l : List ℕ). take b.head received ++ l) (append_assoc h.came (drop b.head received) piece)
             ∙ ap (λ (l : List ℕ). take b.head received ++ (h.came ++ l)) (sym after) ∙ ap (λ (l : List ℕ). l ++ (h.came ++ drop b.head (received ++ piece))) (sym front);
@@ -110,7 +111,7 @@ module _ {F B : Type 0} (r : Reading F B) (uses : List ℕ → List ℕ → Bool
       → asked_early o received ≡ asked_early o (received ++ piece)
   early_more None received piece scan seen body before unread h = refl
   early_more (Some b) received piece scan seen body before unread h =
-      ap (λ (l : List ℕ). inquiry b.parts.wanted.expects (head_in l b.parts)) (sym (take-append-le b.head received piece h.read.within))
+      ap (λ (l : List ℕ). inquiry b.parts.wanted.expects (head_in l b.parts)) (sym (take-append-le b.head received piece h.headed.read.within))
 
   -- the same of a connection like another
   like_has : (old new : Connection F B) (received : List ℕ) (more : Bool) (unread : List ℕ) → IsLike old new → new.received.items ≡ received → new.has_more ≡ more
@@ -228,12 +229,12 @@ module _ {D F B : Type 0} (m : Meaning D) (r : Reading F B) where
   begun_rest b received body rest h =
       let w = h.waits refl in
       let front : List ℕ = take b.head received in
-      let size : length front ≡ b.head = length-take-le b.head received h.read.within in
+      let size : length front ≡ b.head = length-take-le b.head received h.headed.read.within in
       let none : drop b.head received ≡ [] = drop_all b.head received (omega (arith, w.1)) in
       let long : length rest ≡ b.head + length h.came
       = ap (λ (l : List ℕ). length l) (h.is ∙ ap (λ (l : List ℕ). front ++ (h.came ++ l)) none ∙ ap (λ (l : List ℕ). front ++ l) (append-nil h.came)) ∙ length-append front h.came ∙ ap (λ (n : ℕ). n + length h.came) size in
       let less = w.0 in
-      inr (b.head, h.read.parts_are.0, b.parts.wanted, subst (λ (l : List ℕ). HasHead l b.head h.read.parts_are.0 b.parts.wanted) (sym h.is) (has_head received (h.came ++ drop b.head received) b.head b.parts h.read), omega (arith, long, h.sized, less), refl, ap (inquiry b.parts.wanted.expects) (same_head front b.parts h.read.parts_are))
+      inr (b.head, h.headed.read.parts_are.0, b.parts.wanted, subst (λ (l : List ℕ). HasHead l b.head h.headed.read.parts_are.0 b.parts.wanted) (sym h.is) (has_head received (h.came ++ drop b.head received) b.head b.parts h.headed.read), omega (arith, long, h.sized, less), refl, ap (inquiry b.parts.wanted.expects) (same_head front b.parts h.headed.read.parts_are))
 
   pub open_rest : (o : Option (Begun F)) (received : List ℕ) (scan : Scan) (seen : ℕ) (body : Option B) (rest : List ℕ) → HasBegun r m.uses o received scan seen body false rest → (rest ≡ []) ⊎ IsBegun rest (pending o) (asked_early o received)
   open_rest None [] scan seen body rest s = inl s.is

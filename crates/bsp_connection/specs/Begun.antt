@@ -8,7 +8,7 @@ use Rattle.bsp_heads.specs.declared.parts.HeadParts.{HeadParts}
 use Rattle.bsp_heads.specs.declared.scan.Scan.{Scan}
 use Rattle.bsp_connection.specs.Exchanges.{Exchange, Reading, RequestText, inquiry, interim}
 use Rattle.bsp_connection.specs.Conversations.{message_limit}
-use Rattle.bsp_connection.specs.declared.begun.Begun.{Begun}
+use Rattle.bsp_connection.specs.declared.connection.Begun.{Begun}
 use Rattle.bsp_connection.specs.declared.connection.Connection.{Connection}
 
 -- a head was received, and its parts are these
@@ -34,15 +34,16 @@ module _ {F B : Type 0} (r : Reading F B) where
   HasBody found None bytes = Unit {0}
   HasBody found (Some body) bytes = r.has found body bytes
 
-module _ {F B : Type 0} (r : Reading F B) (uses : List ℕ → List ℕ → Bool → Type 0) where
-  -- what was found for a method and a target, and whether a body is used
-  abbrev pub IsFound : List ℕ → HeadParts → F → Bool → Type 0
-  IsFound head parts found is_used = r.finds (span_bytes head parts.method) (span_bytes head parts.target) found × uses (span_bytes head parts.method) (span_bytes head parts.target) is_used
+  -- the head of a message was received, and what was found for it
+  pub record IsHeaded (received : List ℕ) (b : Begun F) : Type 0 where
+    pub read : IsRead received b.head b.parts
+    pub finds : r.finds (span_bytes (take b.head received) b.parts.method) (span_bytes (take b.head received) b.parts.target) b.found
 
+module _ {F B : Type 0} (r : Reading F B) (uses : List ℕ → List ℕ → Bool → Type 0) where
   -- a message is begun: its head is received, and what takes its body has so much of it
   pub record IsBegunAs (b : Begun F) (received : List ℕ) (body : Option B) (has_more : Bool) (unread : List ℕ) : Type 0 where
-    pub read : IsRead received b.head b.parts
-    pub found : IsFound (take b.head received) b.parts b.found (is_some body)
+    pub headed : IsHeaded r received b
+    pub is_used : uses (span_bytes (take b.head received) b.parts.method) (span_bytes (take b.head received) b.parts.target) (is_some body)
     pub came : List ℕ
     pub is : unread ≡ take b.head received ++ (came ++ drop b.head received)
     pub sized : length came + b.left ≡ b.parts.wanted.body
@@ -62,9 +63,13 @@ abbrev pub pending : {F : Type 0} → Option (Begun F) → List ℕ
 pending None = []
 pending (Some b) = interim b.parts.wanted.expects
 
+-- a request as the parts of its head have it
+abbrev pub request_in : List ℕ → HeadParts → List ℕ → RequestText
+request_in head parts body = record { method = span_bytes head parts.method; target = span_bytes head parts.target; token = option_map (span_bytes head) parts.token; body = body }
+
 -- a head as its parts have it
 abbrev pub head_in : List ℕ → HeadParts → RequestText
-head_in head parts = record { method = span_bytes head parts.method; target = span_bytes head parts.target; token = option_map (span_bytes head) parts.token; body = [] }
+head_in head parts = request_in head parts []
 
 -- what the desk was asked for a message that is begun
 abbrev pub asked_early : {F : Type 0} → Option (Begun F) → List ℕ → List Exchange

@@ -8,6 +8,7 @@ pub mod Seeking
 pub mod Begun
 pub mod Talks
 pub mod Progress
+pub mod Turns
 pub mod Ends
 pub mod Reads
 pub mod Serving

@@ -1,6 +1,6 @@
 -- That a connection which is read goes on, so that it ends.
 use Rattle.std.specs.Prelude.{◌≡◌, ◌⊎◌, ℕ, ◌+◌, ◌*◌, ◌-◌, ◌<◌, ◌≤◌, true, false, List, length, Option, Some, None}
-use Rattle.bsp_connection.specs.declared.begun.Begun.{Begun}
+use Rattle.bsp_connection.specs.declared.connection.Begun.{Begun}
 use Rattle.bsp_connection.specs.declared.connection.Connection.{Connection}
 
 module _ {F : Type 0} where

@@ -1,10 +1,10 @@
 -- What the reads of a connection leave noted.
 use Rattle.std.specs.Prelude.{ℕ, Bool, true, Option, Some, None, Result, Ok, Err}
-use Rattle.bsp_connection.specs.declared.end.End.{End}
-use Rattle.bsp_connection.specs.declared.end.End.TheVariants.{Clean, Cut, Closed}
-use Rattle.bsp_connection.specs.declared.end.ServeFault.{ServeFault}
-use Rattle.bsp_connection.specs.declared.end.ServeFault.TheVariants.{Read, Write, Memory}
-use Rattle.bsp_connection.specs.declared.end.Served.{Served}
+use Rattle.bsp_connection.specs.declared.serving.End.{End}
+use Rattle.bsp_connection.specs.declared.serving.End.TheVariants.{Clean, Cut, Closed}
+use Rattle.bsp_connection.specs.declared.serving.ServeFault.{ServeFault}
+use Rattle.bsp_connection.specs.declared.serving.ServeFault.TheVariants.{Read, Write, Memory}
+use Rattle.bsp_connection.specs.declared.serving.Served.{Served}
 
 -- whether a read failed, behind those of a connection
 abbrev pub failed_by_reads : {A : Type 0} → Bool → Result A ServeFault → Bool

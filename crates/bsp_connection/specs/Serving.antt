@@ -7,11 +7,11 @@ use Rattle.bsp_connection.specs.Exchanges.{Exchange, Meaning, inquiry, interim}
 use Rattle.bsp_connection.specs.Conversations.{HasHead, IsBegun, IsRun, head_text}
 use Rattle.bsp_connection.specs.Messages.{AreTaken, Item, Left, asked, left, texts}
 use Rattle.bsp_connection.specs.Ends.{IsInputEnd}
-use Rattle.bsp_connection.specs.declared.end.End.{End}
-use Rattle.bsp_connection.specs.declared.end.End.TheVariants.{Clean, Cut, Closed}
-use Rattle.bsp_connection.specs.declared.end.ServeFault.{ServeFault}
-use Rattle.bsp_connection.specs.declared.end.ServeFault.TheVariants.{Read, Write, Memory}
-use Rattle.bsp_connection.specs.declared.end.Served.{Served}
+use Rattle.bsp_connection.specs.declared.serving.End.{End}
+use Rattle.bsp_connection.specs.declared.serving.End.TheVariants.{Clean, Cut, Closed}
+use Rattle.bsp_connection.specs.declared.serving.ServeFault.{ServeFault}
+use Rattle.bsp_connection.specs.declared.serving.ServeFault.TheVariants.{Read, Write, Memory}
+use Rattle.bsp_connection.specs.declared.serving.Served.{Served}
 
 -- how an input ends after its messages, and for one that is begun the text that was put out and what the desk was asked
 abbrev pub EndsBy : Left → End → List ℕ → List Exchange → Type 0

@@ -5,10 +5,10 @@ use Rattle.bsp_connection.specs.Exchanges.{Exchange, Meaning, Reading}
 use Rattle.bsp_connection.specs.Progress.{most_to_come}
 use Rattle.bsp_connection.specs.Talks.{HasTaken, Talks}
 use Rattle.bsp_connection.specs.declared.connection.Connection.{Connection}
-use Rattle.bsp_connection.specs.declared.end.End.{End}
-use Rattle.bsp_connection.specs.declared.end.End.TheVariants.{Clean, Cut, Closed}
-use Rattle.bsp_connection.specs.declared.end.ServeFault.{ServeFault}
-use Rattle.bsp_connection.specs.declared.end.ServeFault.TheVariants.{Read, Write, Memory}
+use Rattle.bsp_connection.specs.declared.serving.End.{End}
+use Rattle.bsp_connection.specs.declared.serving.End.TheVariants.{Clean, Cut, Closed}
+use Rattle.bsp_connection.specs.declared.serving.ServeFault.{ServeFault}
+use Rattle.bsp_connection.specs.declared.serving.ServeFault.TheVariants.{Read, Write, Memory}
 
 -- the input ends after a message, or within one
 abbrev pub EndsAt : {F B : Type 0} → Connection F B → End → Type 0

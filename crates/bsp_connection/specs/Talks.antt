@@ -5,7 +5,7 @@ use Rattle.bsp_connection.specs.Exchanges.{Exchange, Meaning, Reading}
 use Rattle.bsp_connection.specs.Conversations.{IsBegun, IsRun}
 use Rattle.bsp_connection.specs.Begun.{HasBody, HasUnread, asked_early, pending}
 use Rattle.bsp_connection.specs.Messages.{AreTaken, Item, asked, left, texts}
-use Rattle.bsp_connection.specs.declared.begun.Begun.{Begun}
+use Rattle.bsp_connection.specs.declared.connection.Begun.{Begun}
 use Rattle.bsp_connection.specs.declared.connection.Connection.{Connection}
 
 module _ {D F B : Type 0} (m : Meaning D) (r : Reading F B) where
@@ -89,6 +89,8 @@ pub record IsAnswered {F B : Type 0} (head : ℕ) (text : List ℕ) (closes : Bo
   pub count : new.count ≡ old.count + 1
   pub closed : new.closed ≡ closes
   pub more : new.has_more ≡ false → (closes ≡ true) ⊎ (new.received.items ≡ [])
+  pub number : new.number ≡ old.number
+  pub room : new.received.room ≡ old.received.room
 
 -- this piece of a body was passed on
 pub record HasPassed {F B : Type 0} (r : Reading F B) (b : Begun F) (old new : Connection F B) (now : Begun F) : Type 0 where
@@ -106,6 +108,8 @@ pub record HasPassed {F B : Type 0} (r : Reading F B) (b : Begun F) (old new : C
   pub out : new.out ≡ old.out
   pub count : new.count ≡ old.count
   pub closed : new.closed ≡ old.closed
+  pub number : new.number ≡ old.number
+  pub room : new.received.room ≡ old.received.room
 
 -- there was no memory for a piece of a body
 pub record IsRefused {F B : Type 0} (b : Begun F) (old new : Connection F B) : Type 0 where
@@ -116,3 +120,5 @@ pub record IsRefused {F B : Type 0} (b : Begun F) (old new : Connection F B) : T
   pub out : new.out ≡ old.out
   pub count : new.count ≡ old.count
   pub closed : new.closed ≡ old.closed
+  pub number : new.number ≡ old.number
+  pub room : new.received.room ≡ old.received.room

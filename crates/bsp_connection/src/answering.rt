@@ -1,20 +1,20 @@
 //! Answering the messages of a connection.
 
-ghost use Rattle.std.specs.Prelude.{◌≡◌, ◌≤◌, ◌<◌, ◌+◌, ◌||◌, ◌==◌, ℕ, List, [], ◌++◌, length, take, drop, true, false, None, Some, IfOk, IfSome, OnOk, OnErr, is_some};
-ghost use Rattle.std.specs.Option.{IsSome};
-ghost use Rattle.bsp_connection.specs.Exchanges.{inquiry, request_of, used};
+ghost use Rattle.std.specs.Prelude.{◌≡◌, ◌≤◌, ◌<◌, ◌+◌, ◌||◌, ◌==◌, ℕ, List, ◌++◌, length, take, true, false, None, Some, IfOk, OnOk, OnErr, is_some};
+ghost use Rattle.bsp_connection.specs.Exchanges.{inquiry, used};
 ghost use Rattle.bsp_connection.specs.Conversations.{HasRefusal, IsRun};
 ghost use Rattle.bsp_routes.specs.Replies.{ReplyText, reply_text};
 ghost use Rattle.bsp_heads.specs.Responses.{response};
 ghost use Rattle.bsp_heads.specs.Scan.{head_len};
-ghost use Rattle.bsp_connection.specs.Begun.{HasBody, HasUnread, IsRead, asked_early, head_in};
-ghost use Rattle.bsp_connection.specs.Progress.{IsFurther, IsOn};
+ghost use Rattle.bsp_connection.specs.Begun.{HasBody, HasUnread, IsHeaded, IsRead, head_in, request_in};
+ghost use Rattle.bsp_connection.specs.Progress.{IsOn};
 ghost use Rattle.bsp_connection.specs.Talks.{HasPassed, IsAnswered, IsRefused, Moves};
+ghost use Rattle.bsp_connection.specs.Turns.{HasEnded, IsReady, WentOn};
 
-use crate::begun::{Begun, message_of, up_to};
-use crate::connection::Connection;
+use crate::connection::{Begun, Connection};
 use crate::heads::{Sought, seek};
-use crate::service::{Message, Service};
+use crate::received::{from, up_to};
+use crate::service::{Service, message_of};
 use bsp_fields::NoRoom;
 use bsp_heads::{HeadFault, HeadParts, Refused, Scan, interim, read_head, refusal};
 use bsp_routes::Reply;
@@ -28,19 +28,10 @@ const TOO_LARGE: Refused = Refused {
     bare: false,
 };
 
-/// So many bytes from a place on.
-fn part(bytes: &[u8], at: usize, count: usize) -> &[u8]
-    requires { at + count ≤ length bytes.now }
-    ensures { result.now ≡ take count (drop at bytes.now) }
-{
-    &bytes[at..at + count]
-}
+/// A connection whose messages a service answers.
+type Talk<D, S> = Connection<<S as Service<D>>::Found, <S as Service<D>>::Body>;
 
-/// Passes a piece of a body on to what takes it.
-///
-/// # Errors
-///
-/// `NoRoom` where an allocation was refused: the body is one that is used, and has what it had; the piece has a byte.
+/// Passes a piece of a body on to what takes it. `NoRoom`: the body is used and stays, and the piece has a byte.
 fn pass<D, S: Service<D>>(
     service: &S,
     found: S::Found,
@@ -57,29 +48,24 @@ fn pass<D, S: Service<D>>(
     }
 }
 
-/// Asks the service with the body that came, if there is one: it is used up.
-///
-/// # Errors
-///
-/// `NoRoom` where there was no memory for what the body is. The desk is then as it was.
+/// Asks the service for its reply to a message, with the body that came, if there is one. `NoRoom`: there was no memory
+/// for what the body is, and the desk is as it was.
 fn ask<D, S: Service<D>>(
+    received: &[u8],
+    begun: &Begun<S::Found>,
+    body: Option<S::Body>,
     service: &S,
     desk: &mut D,
-    message: &Message<'_>,
-    found: S::Found,
-    body: &mut Option<S::Body>,
 ) -> Result<Reply, NoRoom>
-    requires finds { S.reads.finds message.now.method.now message.now.target.now found }
-    requires some { (bytes : List ℕ) × HasBody S.reads found body.old bytes }
-    ensures answered { IfOk result (λ reply. (bytes : List ℕ) → HasBody S.reads found body.old bytes → S.means.steps desk.old (request_of message.now (used (is_some body.old) bytes)) (reply_text reply) desk.new) }
-    ensures refused { OnErr result ((desk.new ≡ desk.old) × (is_some body.old ≡ true) × ((bytes : List ℕ) → HasBody S.reads found body.old bytes → 0 < length bytes)) }
+    requires headed { IsHeaded S.reads received.now begun.now }
+    requires some { (bytes : List ℕ) × HasBody S.reads begun.now.found body bytes }
+    ensures answered { IfOk result (λ reply. (bytes : List ℕ) → HasBody S.reads begun.now.found body bytes → S.means.steps desk.old (request_in (take begun.now.head received.now) begun.now.parts (used (is_some body) bytes)) (reply_text reply) desk.new) }
+    ensures refused { OnErr result ((desk.new ≡ desk.old) × (is_some body ≡ true) × ((bytes : List ℕ) → HasBody S.reads begun.now.found body bytes → 0 < length bytes)) }
 {
-    if body.is_none() {
-        return Ok(service.answer(desk, message, found));
-    }
-    match body.take() {
-        Some(body) => service.answer_with(desk, message, found, body),
-        None => unreachable!(),
+    let message = message_of(received, begun.head, &begun.parts);
+    match body {
+        Some(body) => service.answer_with(desk, &message, begun.found, body),
+        None => Ok(service.answer(desk, &message, begun.found)),
     }
 }
 
@@ -94,9 +80,7 @@ fn end_message<F: Copy, B: Drop>(
     requires within { head ≤ length c.old.received.items }
     requires free { c.old.out.apart ≡ false }
     requires few { c.old.count < 65536 }
-    ensures answered { IsAnswered head (response bare closes (reply_text reply)) closes c.old c.new }
-    ensures number { c.new.number ≡ c.old.number }
-    ensures room { c.new.received.room ≡ c.old.received.room }
+    ensures { IsAnswered head (response bare closes (reply_text reply)) closes c.old c.new }
 {
     c.out.respond(reply, bare, closes);
     c.received.drop_front(head);
@@ -109,22 +93,11 @@ fn end_message<F: Copy, B: Drop>(
 }
 
 /// Refuses the head at the front, and closes the connection.
-fn refuse<D, S: Service<D>>(
-    c: &mut Connection<S::Found, S::Body>,
-    refused: Refused,
-    service: &S,
-    desk: &D,
-)
+fn refuse<D, S: Service<D>>(c: &mut Talk<D, S>, refused: Refused, service: &S, desk: &D)
     requires why { HasRefusal c.old.received.items refused }
     requires none { c.old.begun ≡ None }
-    requires unclosed { c.old.closed ≡ false }
-    requires free { c.old.out.apart ≡ false }
-    requires few { c.old.count < 65536 }
-    ensures moves { Moves S.means S.reads c.old c.new desk.now desk.now }
-    ensures closed { c.new.closed ≡ true }
-    ensures shut { c.new.begun ≡ None }
-    ensures number { c.new.number ≡ c.old.number }
-    ensures room { c.new.received.room ≡ c.old.received.room }
+    requires ready { IsReady S.means S.reads c.old }
+    ensures { WentOn S.means S.reads c.old c.new desk.now desk.now }
 {
     let reply = refusal(refused.fault);
     service.note(desk, c.number, None, &reply);
@@ -132,158 +105,126 @@ fn refuse<D, S: Service<D>>(
     end_message(c, all, reply, refused.bare, true);
 }
 
-/// Asks the service whether the body of the message at the front is wanted.
-fn is_wanted<D, S: Service<D>>(
-    received: &[u8],
-    head: usize,
-    parts: &HeadParts,
+/// Takes note of the reply to a message, puts it out, and goes on after so many bytes.
+fn respond<D, S: Service<D>>(
+    c: &mut Talk<D, S>,
+    begun: &Begun<S::Found>,
+    reply: Reply,
+    len: usize,
+    closes: bool,
     service: &S,
-    desk: &mut D,
-) -> bool
-    requires { IsRead received.now head parts.now }
-    ensures { S.means.admits desk.old (head_in (take head received.now) parts.now) result desk.new }
-{
-    let message = message_of(received, head, parts);
-    let found = service.find(message.method, message.target);
-    service.wants(desk, &message, found)
-}
-
-/// Whether the message at the front is begun: its body is wanted, or its sender does not wait for that.
-fn is_admitted<D, S: Service<D>>(
-    received: &[u8],
-    head: usize,
-    parts: &HeadParts,
-    service: &S,
-    desk: &mut D,
-) -> bool
-    requires { IsRead received.now head parts.now }
-    ensures begun { result ≡ true → IsRun S.means desk.old (inquiry parts.now.wanted.expects (head_in (take head received.now) parts.now)) desk.new }
-    ensures unwanted { result ≡ false → (parts.now.wanted.expects ≡ true) × S.means.admits desk.old (head_in (take head received.now) parts.now) false desk.new }
-{
-    !parts.wanted.expects || is_wanted(received, head, parts, service, desk)
-}
-
-/// Answers the message at the front by its head alone, and closes the connection.
-fn turn_away<D, S: Service<D>>(
-    c: &mut Connection<S::Found, S::Body>,
-    head: usize,
-    parts: &HeadParts,
-    service: &S,
-    desk: &mut D,
+    desk: &D,
 )
-    requires read { IsRead c.old.received.items head parts.now }
+    requires read { IsRead c.old.received.items begun.now.head begun.now.parts }
+    requires within { len ≤ length c.old.received.items }
     requires free { c.old.out.apart ≡ false }
     requires few { c.old.count < 65536 }
-    ensures answered { (reply : ReplyText) × S.means.steps desk.old (head_in (take head c.old.received.items) parts.now) reply desk.new
-        × IsAnswered (length c.old.received.items) (response parts.now.wanted.bare true reply) true c.old c.new }
-    ensures number { c.new.number ≡ c.old.number }
-    ensures room { c.new.received.room ≡ c.old.received.room }
+    ensures { IsAnswered len (response begun.now.parts.wanted.bare closes (reply_text reply)) closes c.old c.new }
 {
-    let message = message_of(c.received.bytes(), head, parts);
-    let found = service.find(message.method, message.target);
-    let reply = service.answer(desk, &message, found);
+    let message = message_of(c.received.bytes(), begun.head, &begun.parts);
     service.note(desk, c.number, Some(&message), &reply);
-    let all = c.received.len();
-    end_message(c, all, reply, parts.wanted.bare, true);
+    end_message(c, len, reply, begun.parts.wanted.bare, closes);
 }
 
-/// Begins the message whose head was read.
-fn begin<D, S: Service<D>>(
-    c: &mut Connection<S::Found, S::Body>,
+/// The message whose head was read, as it is begun.
+fn headed<D, S: Service<D>>(
+    received: &[u8],
     head: usize,
     parts: HeadParts,
     service: &S,
-)
-    requires read { IsRead c.old.received.items head parts }
-    requires none { c.old.begun ≡ None }
-    requires unclosed { c.old.closed ≡ false }
-    requires free { c.old.out.apart ≡ false }
-    ensures moves { (d e : D) → IsRun S.means d (inquiry parts.wanted.expects (head_in (take head c.old.received.items) parts)) e → Moves S.means S.reads c.old c.new d e }
-    ensures further { IsFurther c.old c.new }
-    ensures more { c.new.has_more ≡ true }
-    ensures unclosed { c.new.closed ≡ false }
-    ensures number { c.new.number ≡ c.old.number }
-    ensures room { c.new.received.room ≡ c.old.received.room }
+) -> Begun<S::Found>
+    requires { IsRead received.now head parts }
+    ensures headed { IsHeaded S.reads received.now result }
+    ensures left { result.left ≡ result.parts.wanted.body }
 {
-    let message = message_of(c.received.bytes(), head, &parts);
+    let message = message_of(received, head, &parts);
     let found = service.find(message.method, message.target);
-    c.body = service.body(&message, found);
-    c.out.put(interim(parts.wanted.expects));
-    c.begun = Some(Begun {
+    Begun {
         head,
         parts,
         found,
         left: parts.wanted.body,
-    });
-    c.has_more = true;
-}
-
-/// Begins the message whose head was read, or answers it by its head alone where its sender waits and the body is not
-/// wanted.
-fn take_parts<D, S: Service<D>>(
-    c: &mut Connection<S::Found, S::Body>,
-    head: usize,
-    parts: HeadParts,
-    service: &S,
-    desk: &mut D,
-)
-    requires read { IsRead c.old.received.items head parts }
-    requires none { c.old.begun ≡ None }
-    requires unclosed { c.old.closed ≡ false }
-    requires free { c.old.out.apart ≡ false }
-    requires few { c.old.count < 65536 }
-    ensures moves { Moves S.means S.reads c.old c.new desk.old desk.new }
-    ensures goes_on { IsOn c.old c.new }
-    ensures shut { c.new.closed ≡ true → c.new.begun ≡ None }
-    ensures waits { c.new.has_more ≡ false → c.new.begun ≡ None }
-    ensures number { c.new.number ≡ c.old.number }
-    ensures room { c.new.received.room ≡ c.old.received.room }
-{
-    if is_admitted(c.received.bytes(), head, &parts, service, desk) {
-        begin::<D, S>(c, head, parts, service);
-    } else {
-        turn_away(c, head, &parts, service, desk);
     }
 }
 
-/// Reads the head that was found at the front: takes what it says, or refuses it.
-fn take_found<D, S: Service<D>>(
-    c: &mut Connection<S::Found, S::Body>,
-    head: usize,
+/// Whether a message is begun: its body is wanted, or its sender does not wait for that.
+fn is_admitted<D, S: Service<D>>(
+    received: &[u8],
+    begun: &Begun<S::Found>,
+    service: &S,
+    desk: &mut D,
+) -> bool
+    requires { IsHeaded S.reads received.now begun.now }
+    ensures begun { result ≡ true → IsRun S.means desk.old (inquiry begun.now.parts.wanted.expects (head_in (take begun.now.head received.now) begun.now.parts)) desk.new }
+    ensures unwanted { result ≡ false → (begun.now.parts.wanted.expects ≡ true) × S.means.admits desk.old (head_in (take begun.now.head received.now) begun.now.parts) false desk.new }
+{
+    if !begun.parts.wanted.expects {
+        return true;
+    }
+    let message = message_of(received, begun.head, &begun.parts);
+    service.wants(desk, &message, begun.found)
+}
+
+/// Answers a message by its head alone, and closes the connection.
+fn turn_away<D, S: Service<D>>(
+    c: &mut Talk<D, S>,
+    begun: &Begun<S::Found>,
     service: &S,
     desk: &mut D,
 )
+    requires headed { IsHeaded S.reads c.old.received.items begun.now }
+    requires free { c.old.out.apart ≡ false }
+    requires few { c.old.count < 65536 }
+    ensures { (reply : ReplyText) × S.means.steps desk.old (head_in (take begun.now.head c.old.received.items) begun.now.parts) reply desk.new
+        × IsAnswered (length c.old.received.items) (response begun.now.parts.wanted.bare true reply) true c.old c.new }
+{
+    let Ok(reply) = ask(c.received.bytes(), begun, None, service, desk) else {
+        unreachable!()
+    };
+    let all = c.received.len();
+    respond(c, begun, reply, all, true, service, desk);
+}
+
+/// Begins a message.
+fn begin<D, S: Service<D>>(c: &mut Talk<D, S>, begun: Begun<S::Found>, service: &S)
+    requires headed { IsHeaded S.reads c.old.received.items begun }
+    requires left { begun.left ≡ begun.parts.wanted.body }
+    requires none { c.old.begun ≡ None }
+    requires ready { IsReady S.means S.reads c.old }
+    ensures { (d e : D) → IsRun S.means d (inquiry begun.parts.wanted.expects (head_in (take begun.head c.old.received.items) begun.parts)) e → WentOn S.means S.reads c.old c.new d e }
+{
+    let message = message_of(c.received.bytes(), begun.head, &begun.parts);
+    c.body = service.body(&message, begun.found);
+    c.out.put(interim(begun.parts.wanted.expects));
+    c.begun = Some(begun);
+    c.has_more = true;
+}
+
+/// Reads the head at the front: begins its message, answers it by its head alone, or refuses it.
+fn take_found<D, S: Service<D>>(c: &mut Talk<D, S>, head: usize, service: &S, desk: &mut D)
     requires found { head_len c.old.received.items ≡ Some head }
     requires short { head ≤ 16384 }
     requires none { c.old.begun ≡ None }
-    requires unclosed { c.old.closed ≡ false }
-    requires free { c.old.out.apart ≡ false }
-    requires few { c.old.count < 65536 }
-    ensures moves { Moves S.means S.reads c.old c.new desk.old desk.new }
-    ensures goes_on { IsOn c.old c.new }
-    ensures shut { c.new.closed ≡ true → c.new.begun ≡ None }
-    ensures waits { c.new.has_more ≡ false → c.new.begun ≡ None }
-    ensures number { c.new.number ≡ c.old.number }
-    ensures room { c.new.received.room ≡ c.old.received.room }
+    requires ready { IsReady S.means S.reads c.old }
+    ensures { WentOn S.means S.reads c.old c.new desk.old desk.new }
 {
-    match read_head(up_to(c.received.bytes(), head)) {
-        Ok(parts) => take_parts(c, head, parts, service, desk),
-        Err(refused) => refuse(c, refused, service, desk),
+    let parts = match read_head(up_to(c.received.bytes(), head)) {
+        Ok(parts) => parts,
+        Err(refused) => return refuse(c, refused, service, desk),
+    };
+    let begun = headed::<D, S>(c.received.bytes(), head, parts, service);
+    if is_admitted(c.received.bytes(), &begun, service, desk) {
+        begin::<D, S>(c, begun, service);
+    } else {
+        turn_away(c, &begun, service, desk);
     }
 }
 
 /// Seeks the head of the next message.
-fn take_head<D, S: Service<D>>(c: &mut Connection<S::Found, S::Body>, service: &S, desk: &mut D)
+fn take_head<D, S: Service<D>>(c: &mut Talk<D, S>, service: &S, desk: &mut D)
     requires none { c.old.begun ≡ None }
-    requires unclosed { c.old.closed ≡ false }
-    requires free { c.old.out.apart ≡ false }
-    requires has { (unread : List ℕ) × HasUnread S.reads S.means.uses c.old unread }
-    ensures moves { Moves S.means S.reads c.old c.new desk.old desk.new }
-    ensures goes_on { IsOn c.old c.new }
-    ensures shut { c.new.closed ≡ true → c.new.begun ≡ None }
-    ensures waits { c.new.has_more ≡ false → c.new.begun ≡ None }
-    ensures number { c.new.number ≡ c.old.number }
-    ensures room { c.new.received.room ≡ c.old.received.room }
+    requires ready { IsReady S.means S.reads c.old }
+    ensures { WentOn S.means S.reads c.old c.new desk.old desk.new }
 {
     let mut scan = c.scan;
     match seek(&mut scan, c.received.bytes(), c.seen) {
@@ -304,120 +245,89 @@ fn closes_after(wants_close: bool, count: usize) -> bool
     wants_close || count == LAST
 }
 
-/// Passes on what came of the body of the message that is begun. Answers whether the body is whole.
-///
-/// # Errors
-///
-/// `NoRoom` where there was no memory for it.
+/// Passes on what came of the body of the message that is begun, and answers what it is then. `NoRoom`: there was no
+/// memory for it.
 fn pass_on<D, S: Service<D>>(
-    c: &mut Connection<S::Found, S::Body>,
+    c: &mut Talk<D, S>,
+    begun: &Begun<S::Found>,
     service: &S,
-) -> Result<bool, NoRoom>
-    requires begun { IsSome c.old.begun }
-    requires within { IfSome c.old.begun (λ b. b.head ≤ length c.old.received.items) }
-    ensures passed { IfOk result (λ whole. IfSome c.old.begun (λ b. (now : Begun S.Found) × (whole ≡ (now.left == 0)) × HasPassed S.reads b c.old c.new now)) }
-    ensures refused { OnErr result (IfSome c.old.begun (λ b. IsRefused b c.old c.new)) }
-    ensures number { c.new.number ≡ c.old.number }
-    ensures room { c.new.received.room ≡ c.old.received.room }
+) -> Result<Begun<S::Found>, NoRoom>
+    requires begun { c.old.begun ≡ Some begun.now }
+    requires within { begun.now.head ≤ length c.old.received.items }
+    ensures passed { IfOk result (HasPassed S.reads begun.now c.old c.new) }
+    ensures refused { OnErr result (IsRefused begun.now c.old c.new) }
 {
-    let Some(begun) = &mut c.begun else {
-        unreachable!()
-    };
     let count = begun.left.min(c.received.len() - begun.head);
-    let piece = part(c.received.bytes(), begun.head, count);
+    let piece = up_to(from(c.received.bytes(), begun.head), count);
     pass(service, begun.found, &mut c.body, piece)?;
     c.received.cut_out(begun.head, count);
-    begun.left -= count;
-    c.has_more = begun.left == 0;
-    Ok(c.has_more)
+    let now = Begun {
+        left: begun.left - count,
+        ..*begun
+    };
+    c.begun = Some(now);
+    c.has_more = now.left == 0;
+    Ok(now)
 }
 
-/// Answers that there was no memory for the body of the message that is begun, and closes the connection.
-fn unroomed<D, S: Service<D>>(c: &mut Connection<S::Found, S::Body>, service: &S, desk: &D)
-    requires begun { IsSome c.old.begun }
-    requires read { IfSome c.old.begun (λ b. IsRead c.old.received.items b.head b.parts) }
+/// Answers that there was no memory for the body of a message, and closes the connection.
+fn unroomed<D, S: Service<D>>(c: &mut Talk<D, S>, begun: &Begun<S::Found>, service: &S, desk: &D)
+    requires read { IsRead c.old.received.items begun.now.head begun.now.parts }
     requires free { c.old.out.apart ≡ false }
     requires few { c.old.count < 65536 }
-    ensures answered { IfSome c.old.begun (λ b. IsAnswered (length c.old.received.items) (response b.parts.wanted.bare true S.means.no_room) true c.old c.new) }
-    ensures number { c.new.number ≡ c.old.number }
-    ensures room { c.new.received.room ≡ c.old.received.room }
+    ensures { IsAnswered (length c.old.received.items) (response begun.now.parts.wanted.bare true S.means.no_room) true c.old c.new }
 {
-    let Some(begun) = &c.begun else {
-        unreachable!()
-    };
-    let bare = begun.parts.wanted.bare;
-    let message = message_of(c.received.bytes(), begun.head, &begun.parts);
-    let reply = service.no_room();
-    service.note(desk, c.number, Some(&message), &reply);
     c.body = None;
     let all = c.received.len();
-    end_message(c, all, reply, bare, true);
+    respond(c, begun, service.no_room(), all, true, service, desk);
 }
 
 /// Has the message answered that is begun and whose body is whole.
-fn finish<D, S: Service<D>>(c: &mut Connection<S::Found, S::Body>, service: &S, desk: &mut D)
-    requires begun { IsSome c.old.begun }
-    requires whole { IfSome c.old.begun (λ b. b.left ≡ 0) }
-    requires unclosed { c.old.closed ≡ false }
-    requires free { c.old.out.apart ≡ false }
-    requires has { (unread : List ℕ) × HasUnread S.reads S.means.uses c.old unread }
-    ensures moves { Moves S.means S.reads c.old c.new desk.old desk.new }
-    ensures goes_on { IsOn c.old c.new }
-    ensures shut { c.new.closed ≡ true → c.new.begun ≡ None }
-    ensures number { c.new.number ≡ c.old.number }
-    ensures room { c.new.received.room ≡ c.old.received.room }
+fn finish<D, S: Service<D>>(c: &mut Talk<D, S>, begun: &Begun<S::Found>, service: &S, desk: &mut D)
+    requires begun { c.old.begun ≡ Some begun.now }
+    requires whole { begun.now.left ≡ 0 }
+    requires ready { IsReady S.means S.reads c.old }
+    ensures { HasEnded S.means S.reads c.old c.new desk.old desk.new }
 {
-    let Some(begun) = &c.begun else {
-        unreachable!()
+    let closes = closes_after(begun.parts.wanted.closes, c.count);
+    let body = c.body.take();
+    let Ok(reply) = ask(c.received.bytes(), begun, body, service, desk) else {
+        return unroomed(c, begun, service, desk);
     };
-    let head = begun.head;
-    let wanted = begun.parts.wanted;
-    let message = message_of(c.received.bytes(), head, &begun.parts);
-    let Ok(reply) = ask(service, desk, &message, begun.found, &mut c.body) else {
-        return unroomed(c, service, desk);
-    };
-    service.note(desk, c.number, Some(&message), &reply);
-    let closes = closes_after(wanted.closes, c.count);
-    end_message(c, head, reply, wanted.bare, closes);
+    respond(c, begun, reply, begun.head, closes, service, desk);
 }
 
 /// Goes on with the body of the message that is begun.
-fn take_body<D, S: Service<D>>(c: &mut Connection<S::Found, S::Body>, service: &S, desk: &mut D)
-    requires begun { IsSome c.old.begun }
-    requires unclosed { c.old.closed ≡ false }
-    requires free { c.old.out.apart ≡ false }
-    requires has { (unread : List ℕ) × HasUnread S.reads S.means.uses c.old unread }
-    ensures moves { Moves S.means S.reads c.old c.new desk.old desk.new }
-    ensures goes_on { IsOn c.old c.new }
-    ensures shut { c.new.closed ≡ true → c.new.begun ≡ None }
-    ensures number { c.new.number ≡ c.old.number }
-    ensures room { c.new.received.room ≡ c.old.received.room }
+fn take_body<D, S: Service<D>>(
+    c: &mut Talk<D, S>,
+    begun: &Begun<S::Found>,
+    service: &S,
+    desk: &mut D,
+)
+    requires begun { c.old.begun ≡ Some begun.now }
+    requires ready { IsReady S.means S.reads c.old }
+    ensures { WentOn S.means S.reads c.old c.new desk.old desk.new }
 {
-    match pass_on(c, service) {
-        Ok(true) => finish(c, service, desk),
-        Ok(false) => {}
-        Err(_) => unroomed(c, service, desk),
+    let Ok(now) = pass_on(c, begun, service) else {
+        return unroomed(c, begun, service, desk);
+    };
+    if now.left == 0 {
+        finish(c, &now, service, desk);
     }
 }
 
 /// Takes the next message as far as it came: its head, and its body.
-fn take_message<D, S: Service<D>>(c: &mut Connection<S::Found, S::Body>, service: &S, desk: &mut D)
+fn take_message<D, S: Service<D>>(c: &mut Talk<D, S>, service: &S, desk: &mut D)
     requires none { c.old.begun ≡ None }
-    requires unclosed { c.old.closed ≡ false }
-    requires free { c.old.out.apart ≡ false }
-    requires has { (unread : List ℕ) × HasUnread S.reads S.means.uses c.old unread }
-    ensures moves { Moves S.means S.reads c.old c.new desk.old desk.new }
-    ensures goes_on { IsOn c.old c.new }
-    ensures shut { c.new.closed ≡ true → c.new.begun ≡ None }
-    ensures number { c.new.number ≡ c.old.number }
-    ensures room { c.new.received.room ≡ c.old.received.room }
+    requires ready { IsReady S.means S.reads c.old }
+    ensures { WentOn S.means S.reads c.old c.new desk.old desk.new }
 {
     take_head(c, service, desk);
     if !c.out.is_free() {
         return;
     }
-    if c.begun.is_some() {
-        take_body(c, service, desk);
+    if let Some(begun) = c.begun {
+        take_body(c, &begun, service, desk);
     }
 }
 
@@ -425,7 +335,7 @@ fn take_message<D, S: Service<D>>(c: &mut Connection<S::Found, S::Body>, service
 /// parts were not copied, nothing is done.
 ///
 /// Where there is no memory for a body the answer says so, and the connection closes.
-pub fn go_on<D, S: Service<D>>(c: &mut Connection<S::Found, S::Body>, service: &S, desk: &mut D)
+pub fn go_on<D, S: Service<D>>(c: &mut Talk<D, S>, service: &S, desk: &mut D)
     requires { (unread : List ℕ) × HasUnread S.reads S.means.uses c.old unread }
     ensures moves { Moves S.means S.reads c.old c.new desk.old desk.new }
     ensures goes_on { c.old.closed ≡ false → c.old.out.apart ≡ false → IsOn c.old c.new }
@@ -436,9 +346,8 @@ pub fn go_on<D, S: Service<D>>(c: &mut Connection<S::Found, S::Body>, service: &
     if c.closed || !c.out.is_free() {
         return;
     }
-    if c.begun.is_some() {
-        take_body(c, service, desk);
-    } else {
-        take_message(c, service, desk);
+    match c.begun {
+        Some(begun) => take_body(c, &begun, service, desk),
+        None => take_message(c, service, desk),
     }
 }

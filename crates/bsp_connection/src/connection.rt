@@ -6,20 +6,38 @@ ghost use Rattle.bsp_connection.specs.Outputs.{HasOutput};
 ghost use Rattle.bsp_connection.specs.Steps.{EndsAt};
 ghost use Rattle.bsp_connection.specs.Talks.{HasTaken, IsFresh, IsSame, IsSent};
 
-use crate::begun::Begun;
-use crate::end::End;
 use crate::output::Output;
 use crate::received::Received;
+use crate::serving::End;
 use bsp_fields::NoRoom;
-use bsp_heads::Scan;
+use bsp_heads::{HeadParts, Scan};
 use std::alloc::{AllocError, Global};
 
 /// The most bytes that wait to be used, and those of one piece.
 const ROOM: usize = 32_768;
 
+/// A message whose head came, and whose body is to come.
+#[derive(Copy)]
+pub struct Begun<F> {
+    /// How many bytes its head has.
+    pub head: usize,
+    /// What its head states.
+    pub parts: HeadParts,
+    /// What its method and its target ask for.
+    pub found: F,
+    /// How many bytes of its body are to come.
+    pub left: usize,
+}
+
+impl<F: Copy> Clone for Begun<F> {
+    fn clone(&self) -> Result<Self, AllocError> {
+        Ok(*self)
+    }
+}
+
 /// One connection: what came of the peer and is in no message yet, and what is to be sent.
 #[derive(Drop)]
-pub struct Connection<F, B> {
+pub struct Connection<F: Copy, B> {
     pub(crate) alloc: Global,
     // For what is noted of its replies.
     pub(crate) number: u64,
@@ -40,7 +58,7 @@ pub struct Connection<F, B> {
     pub(crate) has_more: bool,
 }
 
-impl<F, B: Drop> Connection<F, B> {
+impl<F: Copy, B: Drop> Connection<F, B> {
     /// The connection of this number, of which nothing came. It takes no memory.
     pub fn new(alloc: Global, number: u64) -> Connection<F, B>
         ensures fresh { IsFresh result }
@@ -62,11 +80,7 @@ impl<F, B: Drop> Connection<F, B> {
     }
 
     /// The connection of this number, of which nothing came, with room for what may wait to be used and one piece of
-    /// 16,384 bytes.
-    ///
-    /// # Errors
-    ///
-    /// `AllocError` where the room was refused.
+    /// 16,384 bytes. `AllocError`: the room was refused.
     pub(crate) fn with_room(alloc: Global, number: u64) -> Result<Connection<F, B>, AllocError>
         ensures fresh { IfOk result IsFresh }
         ensures number { IfOk result (λ c. c.number ≡ number) }
@@ -119,13 +133,6 @@ impl<F, B: Drop> Connection<F, B> {
         ensures { IsSent self.old (take count self.old.out.front) self.new }
     {
         self.out.sent(count);
-    }
-
-    /// Whether a message of what came may be answered by [`go_on`](crate::go_on).
-    pub(crate) fn has_more(&self) -> bool
-        ensures { result ≡ self.now.has_more }
-    {
-        self.has_more
     }
 
     /// Whether [`go_on`](crate::go_on) can go on with what came: more may be answered, and may be put out.

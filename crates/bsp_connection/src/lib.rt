@@ -7,10 +7,7 @@
 #![tactic(auto)]
 
 mod answering;
-mod apart;
-mod begun;
 mod connection;
-mod end;
 mod heads;
 mod output;
 mod protocol;
@@ -19,10 +16,8 @@ mod service;
 mod serving;
 
 pub use answering::go_on;
-pub use begun::Begun;
-pub use connection::Connection;
-pub use end::{End, ServeFault, Served};
+pub use connection::{Begun, Connection};
 pub use output::Output;
 pub use protocol::Http;
 pub use service::{Message, Service};
-pub use serving::serve;
+pub use serving::{End, ServeFault, Served, serve};

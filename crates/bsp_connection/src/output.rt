@@ -5,10 +5,10 @@ ghost use Rattle.std.specs.Cow.{cow_slice_items};
 ghost use Rattle.bsp_heads.specs.ResponseHeads.{head_text};
 ghost use Rattle.bsp_routes.specs.Replies.{reply_text};
 ghost use Rattle.bsp_heads.specs.Responses.{reply_head, response};
-ghost use Rattle.bsp_connection.specs.Outputs.{HasOutput};
+ghost use Rattle.bsp_connection.specs.Outputs.{HasOutput, head_bytes};
 
-use crate::apart::{Apart, after, from};
-use bsp_heads::{HEAD_ROOM, ResponseHead};
+use crate::received::from;
+use bsp_heads::{HEAD_ROOM, HeadText, ResponseHead};
 use bsp_routes::Reply;
 use std::alloc::Global;
 use std::borrow::CowSlice;
@@ -19,6 +19,104 @@ const COPIED: usize = 2048;
 
 /// The bytes for which room is made with the first response, so that a few that are sent together find room.
 const FIRST: usize = 1024;
+
+/// The parts of a response, and how much of each was sent. A contract sees the bytes that are not yet sent, and those
+/// that are sent next.
+#[derive(Drop)]
+pub(crate) struct Apart {
+    // None where there is one text alone.
+    head: Option<HeadText>,
+    body: CowSlice<'static, u8, Global>,
+    head_sent: usize,
+    body_sent: usize,
+}
+
+impl Model for Apart {
+    ghost use Rattle.std.specs.Prelude.{length, ◌≤◌};
+    ghost use Rattle.std.specs.Cow.{cow_slice_items};
+    ghost use Rattle.bsp_connection.specs.Outputs.{Rest, head_bytes, rest_of};
+
+    ghost Value = { Rest };
+
+    ghost view = { λ a. rest_of (head_bytes a.head) a.head_sent (cow_slice_items a.body) a.body_sent };
+
+    ghost invariant = { λ a. (a.head_sent ≤ length (head_bytes a.head)) × (a.body_sent ≤ length (cow_slice_items a.body)) };
+}
+
+/// The bytes of a head that may be there.
+fn head_of(head: &Option<HeadText>) -> &[u8]
+    ensures { result.now ≡ head_bytes head.now }
+{
+    match head {
+        Some(head) => head.as_bytes(),
+        None => b"",
+    }
+}
+
+impl Apart {
+    /// A response, or a text with no head.
+    pub(crate) fn new(head: Option<HeadText>, body: CowSlice<'static, u8, Global>) -> Apart
+        ensures { result.bytes ≡ head_bytes head ++ cow_slice_items body.entry }
+    {
+        Apart {
+            head,
+            body,
+            head_sent: 0,
+            body_sent: 0,
+        }
+    }
+
+    /// Whether all is sent.
+    pub(crate) fn is_empty(&self) -> bool
+        ensures { result ≡ true → self.now.bytes ≡ [] }
+    {
+        self.head_sent == head_of(&self.head).len() && self.body_sent == self.body.as_slice().len()
+    }
+
+    /// What is sent next.
+    pub(crate) fn front(&self) -> &[u8]
+        ensures { result.now ≡ self.now.front }
+    {
+        let head = head_of(&self.head);
+        if self.head_sent < head.len() {
+            return from(head, self.head_sent);
+        }
+        from(self.body.as_slice(), self.body_sent)
+    }
+
+    /// The rest of the head, and that of the body.
+    pub(crate) fn parts(&self) -> (&[u8], &[u8])
+        ensures { result.0.now ++ result.1.now ≡ self.now.bytes }
+    {
+        (
+            from(head_of(&self.head), self.head_sent),
+            from(self.body.as_slice(), self.body_sent),
+        )
+    }
+
+    /// Drops the first bytes of what is sent next.
+    pub(crate) fn sent(&mut self, count: usize)
+        requires { count ≤ length self.old.front }
+        ensures { self.old.bytes ≡ take count self.old.front ++ self.new.bytes }
+    {
+        let head = head_of(&self.head);
+        if self.head_sent < head.len() {
+            self.head_sent = after(head, self.head_sent, count);
+        } else {
+            self.body_sent = after(self.body.as_slice(), self.body_sent, count);
+        }
+    }
+}
+
+/// The place after so many bytes from a place on.
+fn after(bytes: &[u8], at: usize, count: usize) -> usize
+    requires within { at ≤ length bytes.now }
+    requires count { count ≤ length (drop at bytes.now) }
+    ensures within { result ≤ length bytes.now }
+    ensures rest { drop at bytes.now ≡ take count (drop at bytes.now) ++ drop result bytes.now }
+{
+    at + count
+}
 
 /// What is to be sent: texts that were put together, and after them at most one response whose parts are kept apart. A
 /// contract sees the bytes that are not yet sent, those that are sent next, and whether there is such a response.
@@ -42,10 +140,13 @@ impl Model for Output {
     ghost invariant = { λ o. o.sent ≤ length o.texts.items };
 }
 
-/// Appends a response, or nothing where there is no room.
+/// Appends a response with a small body, or nothing where there is no room.
 fn append_response(texts: &mut Vec<u8>, head: &ResponseHead, body: &[u8]) -> bool
     ensures { texts.new.items ≡ (if result then texts.old.items ++ (head_text head.now ++ body.now) else texts.old.items) }
 {
+    if body.len() > COPIED {
+        return false;
+    }
     let room = HEAD_ROOM.saturating_add(body.len());
     let wanted = if texts.is_empty() {
         room.max(FIRST)
@@ -58,6 +159,16 @@ fn append_response(texts: &mut Vec<u8>, head: &ResponseHead, body: &[u8]) -> boo
     head.append_to(texts);
     let _ = texts.extend_from_slice(body);
     true
+}
+
+/// The body of the response with this reply, which may be left out.
+fn body_for(reply: Reply, bare: bool) -> CowSlice<'static, u8, Global>
+    ensures { cow_slice_items result ≡ (if bare then [] else (reply_text reply).body) }
+{
+    if bare {
+        return CowSlice::Borrowed(b"");
+    }
+    reply.body
 }
 
 /// The head of the response with this reply.
@@ -184,7 +295,7 @@ impl Output {
             return;
         }
         if self.texts.extend_from_slice(text).is_err() {
-            self.apart = Some(Apart::new(None, CowSlice::Borrowed(text)));
+            self.put_apart(None, CowSlice::Borrowed(text));
         }
     }
 
@@ -195,23 +306,19 @@ impl Output {
         ensures { self.new.bytes ≡ self.old.bytes ++ response bare closes (reply_text reply) }
     {
         let head = head_for(&reply, closes);
-        let body = if bare {
-            CowSlice::Borrowed(b"")
-        } else {
-            reply.body
-        };
+        let body = body_for(reply, bare);
         let bytes = body.as_slice();
-        if bytes.len() <= COPIED && append_response(&mut self.texts, &head, bytes) {
+        if append_response(&mut self.texts, &head, bytes) {
             return;
         }
-        self.respond_apart(&head, body);
+        self.put_apart(Some(head.text()), body);
     }
 
-    /// Puts out a response whose parts are kept apart.
-    fn respond_apart(&mut self, head: &ResponseHead, body: CowSlice<'static, u8, Global>)
+    /// Puts out texts that are kept apart.
+    fn put_apart(&mut self, head: Option<HeadText>, body: CowSlice<'static, u8, Global>)
         requires { self.old.apart ≡ false }
-        ensures { self.new.bytes ≡ self.old.bytes ++ (head_text head.now ++ cow_slice_items body.entry) }
+        ensures { self.new.bytes ≡ self.old.bytes ++ (head_bytes head ++ cow_slice_items body.entry) }
     {
-        self.apart = Some(Apart::new(Some(head.text()), body));
+        self.apart = Some(Apart::new(head, body));
     }
 }

@@ -39,7 +39,7 @@ impl<'s, D, S: Service<D>> Protocol<D> for Http<'s, S> {
 
     ghost rests = { Rests S.means S.reads };
 
-    fn open(&self, number: u64) -> Connection<S::Found, S::Body>
+    fn open(&self, number: u64) -> Self::Connection
         ensures talks { Talks S.means S.reads [] [] [] result }
         ensures fresh { IsFresh result }
         ensures number { result.number ≡ number }
@@ -47,11 +47,7 @@ impl<'s, D, S: Service<D>> Protocol<D> for Http<'s, S> {
         Connection::new(self.alloc, number)
     }
 
-    fn feed(
-        &self,
-        connection: &mut Connection<S::Found, S::Body>,
-        piece: &[u8],
-    ) -> Result<(), NoRoom>
+    fn feed(&self, connection: &mut Self::Connection, piece: &[u8]) -> Result<(), NoRoom>
         requires { IsTalk (Talks S.means S.reads) connection.old }
         ensures taken { OnOk result (HasGot (Talks S.means S.reads) piece.now connection.old connection.new) }
         ensures refused { OnErr result (IsAsItWas (Talks S.means S.reads) connection.old connection.new) }
@@ -61,7 +57,7 @@ impl<'s, D, S: Service<D>> Protocol<D> for Http<'s, S> {
         connection.feed(piece)
     }
 
-    fn go_on(&self, connection: &mut Connection<S::Found, S::Body>, desk: &mut D)
+    fn go_on(&self, connection: &mut Self::Connection, desk: &mut D)
         requires { IsTalk (Talks S.means S.reads) connection.old }
         ensures asked { HasAsked (Talks S.means S.reads) (does S.means) desk.old desk.new connection.old connection.new }
         ensures goes_on { connection.old.closed ≡ false → connection.old.out.apart ≡ false → IsOn connection.old connection.new }
@@ -71,11 +67,11 @@ impl<'s, D, S: Service<D>> Protocol<D> for Http<'s, S> {
         connection.give_back();
     }
 
-    fn output<'c>(&self, connection: &'c Connection<S::Found, S::Body>) -> &'c [u8] {
+    fn output<'c>(&self, connection: &'c Self::Connection) -> &'c [u8] {
         connection.output()
     }
 
-    fn sent(&self, connection: &mut Connection<S::Found, S::Body>, count: usize)
+    fn sent(&self, connection: &mut Self::Connection, count: usize)
         requires { count ≤ length connection.old.out.front }
         ensures sent { HasSent (Talks S.means S.reads) (take count connection.old.out.front) connection.old connection.new }
         ensures only { IsSent connection.old (take count connection.old.out.front) connection.new }
@@ -83,7 +79,7 @@ impl<'s, D, S: Service<D>> Protocol<D> for Http<'s, S> {
         connection.sent(count);
     }
 
-    fn state(&self, connection: &Connection<S::Found, S::Body>) -> State
+    fn state(&self, connection: &Self::Connection) -> State
         ensures done { result.is_done ≡ true → Rests S.means S.reads connection.now }
         ensures not_done { result.is_done ≡ false → HasOutput connection.now.out ⊎ ((connection.now.closed ≡ false) × (connection.now.has_more ≡ true)) }
         ensures more { result.has_more ≡ (connection.now.has_more && not connection.now.out.apart) }

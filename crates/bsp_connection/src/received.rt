@@ -2,7 +2,6 @@
 
 ghost use Rattle.std.specs.Prelude.{◌≡◌, ◌≤◌, ◌<◌, ◌+◌, ◌==◌, [], ◌++◌, length, take, drop, IfOk, OnOk, OnErr, vec_capacity};
 
-use crate::apart::from;
 use std::alloc::{AllocError, Global};
 use std::marker::Model;
 
@@ -26,6 +25,23 @@ impl Model for Received {
     ghost view = { λ r. record { items = drop r.gone r.bytes.items; room = vec_capacity r.bytes } };
 
     ghost invariant = { λ r. r.gone ≤ length r.bytes.items };
+}
+
+/// The bytes from here on.
+pub(crate) fn from(bytes: &[u8], at: usize) -> &[u8]
+    requires { at ≤ length bytes.now }
+    ensures { result.now ≡ drop at bytes.now }
+{
+    &bytes[at..]
+}
+
+/// The first bytes.
+pub(crate) fn up_to(bytes: &[u8], count: usize) -> &[u8]
+    requires { count ≤ length bytes.now }
+    ensures value { result.now ≡ take count bytes.now }
+    ensures len { length result.now ≡ count }
+{
+    &bytes[..count]
 }
 
 /// Drops the first bytes.
@@ -57,11 +73,7 @@ impl Received {
         }
     }
 
-    /// No bytes, with room for so many.
-    ///
-    /// # Errors
-    ///
-    /// `AllocError` where the room was refused.
+    /// No bytes, with room for so many. `AllocError`: the room was refused.
     pub(crate) fn with_room(alloc: Global, room: usize) -> Result<Received, AllocError>
         ensures none { IfOk result (λ r. r.items ≡ []) }
         ensures room { IfOk result (λ r. room ≤ r.room) }
@@ -92,11 +104,7 @@ impl Received {
         self.len() == 0
     }
 
-    /// Takes the next bytes.
-    ///
-    /// # Errors
-    ///
-    /// `AllocError` where an allocation was refused. None of the bytes is taken then.
+    /// Takes the next bytes. `AllocError`: an allocation was refused, and none of them is taken.
     pub(crate) fn take(&mut self, piece: &[u8]) -> Result<(), AllocError>
         ensures taken { OnOk result (self.new.items ≡ self.old.items ++ piece.now) }
         ensures refused { OnErr result (self.new.items ≡ self.old.items) }

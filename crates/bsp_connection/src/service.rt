@@ -1,10 +1,13 @@
 //! What answers the messages of a connection.
 
-ghost use Rattle.std.specs.Prelude.{◌≡◌, ◌<◌, ◌++◌, ℕ, List, [], length, true, is_some, IfSome, IfOk, OnOk, OnErr};
+ghost use Rattle.std.specs.Prelude.{◌≡◌, ◌<◌, ◌++◌, ℕ, List, [], length, take, true, is_some, IfSome, IfOk, OnOk, OnErr};
 ghost use Rattle.bsp_routes.specs.Replies.{reply_text};
+ghost use Rattle.bsp_connection.specs.Begun.{IsRead, request_in};
 ghost use Rattle.bsp_connection.specs.Exchanges.{Meaning, Reading, request_of};
 
+use crate::received::up_to;
 use bsp_fields::NoRoom;
+use bsp_heads::HeadParts;
 use bsp_routes::Reply;
 
 /// A request whose head was read.
@@ -16,6 +19,23 @@ pub struct Message<'m> {
     pub target: &'m [u8],
     /// The value of the one `Bsp-Token` field; none where no field or several have that name.
     pub token: Option<&'m [u8]>,
+}
+
+/// The message whose head is at the front, as its parts have it.
+pub(crate) fn message_of<'m>(received: &'m [u8], head: usize, parts: &HeadParts) -> Message<'m>
+    requires { IsRead received.now head parts.now }
+    ensures { (body : List ℕ) → request_of result body ≡ request_in (take head received.now) parts.now body }
+{
+    let text = up_to(received, head);
+    let token = match parts.token {
+        Some(token) => Some(token.of(text)),
+        None => None,
+    };
+    Message {
+        method: parts.method.of(text),
+        target: parts.target.of(text),
+        token,
+    }
 }
 
 /// Answers messages at a desk of type `D`.

@@ -1,25 +1,57 @@
 //! Serving one connection.
 
 ghost use Rattle.std.specs.Prelude.{◌≡◌, ◌≢◌, ◌⊎◌, ◌<◌, ◌≤◌, ◌+◌, ◌==◌, ℕ, true, false, List, [], ◌++◌, length, None, Some, Ok, Err, IfOk, OnOk, OnErr};
-ghost use Rattle.std.specs.Io.KnownBytes.{Appends, Consumes, IsAtEnd, Keeps};
+ghost use Rattle.std.specs.Io.KnownBytes.{Appends, Consumes, IsAtEnd};
 ghost use Rattle.bsp_connection.specs.Begun.{HasUnread};
 ghost use Rattle.bsp_connection.specs.Ends.{IsInputEnd};
-ghost use Rattle.bsp_connection.specs.Progress.{IsAtRest};
 ghost use Rattle.bsp_connection.specs.Reads.{failed_by_reads, most_empty, most_empty_of_turn};
 ghost use Rattle.bsp_connection.specs.Serving.{Serves};
 ghost use Rattle.bsp_connection.specs.Steps.{WasRead, WasStep};
-ghost use Rattle.bsp_streams.specs.Noted.{empty_reads, failed_by};
 ghost use Rattle.bsp_connection.specs.Talks.{IsFresh, IsSame, IsSent};
 ghost use Rattle.bsp_streams.specs.Written.{IsWritten};
 
 use crate::answering::go_on;
-use crate::begun::up_to;
 use crate::connection::Connection;
-use crate::end::{End, ServeFault, Served};
+use crate::received::up_to;
 use crate::service::Service;
 use bsp_streams::{Noted, WriteFault, send_all, send_on};
 use std::alloc::Global;
 use std::io::{Read, Write};
+use thiserror::Error;
+
+/// How a connection ended.
+#[derive(Clone, Copy, PartialEq, Eq)]
+pub enum End {
+    /// The input ended behind a message, or before the first.
+    Clean,
+    /// The input ended within a message.
+    Cut,
+    /// The last response closed the connection.
+    Closed,
+}
+
+/// Why a connection was not served to its end.
+#[derive(Clone, Copy, Debug, PartialEq, Eq, Error)]
+pub enum ServeFault {
+    /// A read failed.
+    #[error("the peer's bytes could not be read")]
+    Read,
+    /// A write failed, or took no byte.
+    #[error("a response could not be written")]
+    Write,
+    /// There was no memory for the connection. Nothing was read or written.
+    #[error("no memory for the connection")]
+    Memory,
+}
+
+/// What was served of a connection.
+#[derive(Clone, Copy, PartialEq, Eq)]
+pub struct Served {
+    /// How many messages were answered, refusals among them; interim responses are not counted.
+    pub messages: usize,
+    /// How the connection ended.
+    pub end: End,
+}
 
 /// The number of a connection that is served alone.
 const ALONE: u64 = 0;
@@ -35,7 +67,7 @@ fn are_empty(texts: (&[u8], &[u8], &[u8])) -> bool
 }
 
 /// Writes all that is put out. Where nothing is, the writer is not called.
-fn send_out<W: Write, F, B: Drop>(
+fn send_out<W: Write, F: Copy, B: Drop>(
     c: &mut Connection<F, B>,
     writer: &mut Noted<W>,
 ) -> Result<(), WriteFault>
@@ -57,7 +89,7 @@ fn send_out<W: Write, F, B: Drop>(
 }
 
 /// Reads once, and has the connection take what came. The peer was sent what the writer held back.
-fn receive<R: Read, W: Write, F, B: Drop>(
+fn receive<R: Read, W: Write, F: Copy, B: Drop>(
     c: &mut Connection<F, B>,
     room: &mut [u8],
     reader: &mut Noted<R>,
@@ -119,7 +151,7 @@ fn step<R: Read, W: Write, D, S: Service<D>>(
     if c.is_closed() {
         return Ok(Some(End::Closed));
     }
-    if c.has_more() {
+    if c.has_more {
         return Ok(None);
     }
     send_on(writer);

@@ -1,26 +1,18 @@
-use Rattle.std.proofs.Common.{is_some, ◌≡◌, ℕ, List, ◌++◌, take, refl, ap, ◌∙◌, subst}
-use Rattle.httparse.specs.Spans.{span_bytes}
-use Rattle.bsp_connection.proofs.StepLemmas.{begun_further, begun_moves, fresh_body}
+use Rattle.std.proofs.Common.{is_some, ℕ, List, [], ◌++◌, take, refl, sym, ap, ◌∙◌, subst}
+use Rattle.bsp_connection.specs.Begun.{head_in}
+use Rattle.bsp_connection.specs.Exchanges.{RequestText}
+use Rattle.bsp_connection.proofs.StepLemmas.{fresh_body}
+use Rattle.bsp_connection.proofs.TurnLemmas.{begun_turn}
 use Rattle.bsp_connection.proofs.answering.begin.Goals as goal
 
-pub returns-clause-moves : goal.returns-clause-moves
-returns-clause-moves g c d e run =
-    let r = g.S.Service.reads in
-    let uses = g.S.Service.means.uses in
-    let found = c.find-found.result in
-    let is_used = is_some c.body.result in
-    let head : List ℕ = take c.args.head c.args.c.now.received.items in
-    let are = c.message_of-message.ensures in
-    let text = ap (λ (l : List ℕ). take c.args.head l) c.bytes.ensures in
-    let method : c.message_of-message.result.method.now ≡ span_bytes head c.args.parts.method = are.method ∙ ap (λ (l : List ℕ). span_bytes l c.args.parts.method) text in
-    let target : c.message_of-message.result.target.now ≡ span_bytes head c.args.parts.target = are.target ∙ ap (λ (l : List ℕ). span_bytes l c.args.parts.target) text in
-    begun_moves g.S.Service.means r c.args.c.now _ d e (record { head = c.args.head; parts = c.args.parts; found = found; left = c.args.parts.wanted.body }) c.requires.read (
-      subst (λ (l : List ℕ). r.finds (span_bytes head c.args.parts.method) l found) target (subst (λ (l : List ℕ). r.finds l c.message_of-message.result.target.now found) method c.find-found.ensures),
-      subst (λ (l : List ℕ). uses (span_bytes head c.args.parts.method) l is_used) target (subst (λ (l : List ℕ). uses l c.message_of-message.result.target.now is_used) method c.body.ensures.used),
-    )
-    refl c.requires.none c.requires.unclosed refl refl refl refl refl (fresh_body r found c.body.result c.body.ensures.fresh)
-    (c.put.ensures ∙ ap (λ (l : List ℕ). c.args.c.now.out.bytes ++ l) c.interim.ensures) run
+pub body-requires : goal.body-requires
+body-requires g c = subst (λ (q : RequestText). g.S.Service.reads.finds q.method q.target c.args.begun.found) (ap (λ (l : List ℕ). head_in (take c.args.begun.head l) c.args.begun.parts) (sym c.bytes.ensures) ∙ sym (c.message_of-message.ensures [])) c.requires.headed.finds
 
-pub returns-clause-further : goal.returns-clause-further
-returns-clause-further g c =
-    begun_further (record { head = c.args.head; parts = c.args.parts; found = c.find-found.result; left = c.args.parts.wanted.body }) c.args.c.now _ c.requires.read refl c.requires.none refl refl refl refl
+pub returns : goal.returns
+returns g c d e run =
+    let m = g.S.Service.means in
+    let r = g.S.Service.reads in
+    let b = c.args.begun in
+    let uses = subst (λ (q : RequestText). m.uses q.method q.target (is_some c.body.result)) (c.message_of-message.ensures [] ∙ ap (λ (l : List ℕ). head_in (take b.head l) b.parts) c.bytes.ensures) c.body.ensures.used in
+    begun_turn m r c.args.c.now _ d e b c.requires.headed uses c.requires.left c.requires.none c.requires.ready refl refl refl refl refl refl (fresh_body r b.found c.body.result c.body.ensures.fresh)
+    (c.put.ensures ∙ ap (λ (l : List ℕ). c.args.c.now.out.bytes ++ l) c.interim.ensures) run

@@ -40,13 +40,13 @@ returns-then-is_closed-clause-step g c =
       ),
     )
 
-pub returns-then-has_more-clause-step : goal.returns-then-has_more-clause-step
-returns-then-has_more-clause-step g c =
+pub returns-then-c-clause-step : goal.returns-then-c-clause-step
+returns-then-c-clause-step g c =
     let m = g.S.Service.means in
     let r = g.S.Service.reads in
     let w = c.in-Ok.ensures in
     let still : c.send_out.new.c.closed ≡ false = sym c.is_closed.ensures ∙ c.if-is_closed.false in
-    let more : c.go_on.new.c.has_more ≡ true = sym w.sent.2 ∙ sym c.has_more.ensures ∙ c.if-has_more.true in
+    let more : c.go_on.new.c.has_more ≡ true = sym w.sent.2 ∙ c.if-c.true in
     let further = still_further c.args.c.now c.go_on.new.c (c.go_on.ensures.goes_on c.requires.unclosed c.requires.free) (sym w.sent.3.closed ∙ still) in
     let few = (c.requires.has.1 c.requires.unclosed).0 in (
       [],
@@ -66,7 +66,7 @@ returns-clause-step g c =
     let r = g.S.Service.reads in
     let w = c.in-Ok.ensures in
     let still : c.send_out.new.c.closed ≡ false = sym c.is_closed.ensures ∙ c.if-is_closed.false in
-    let none : c.send_out.new.c.has_more ≡ false = sym c.has_more.ensures ∙ c.if-has_more.false in
+    let none : c.send_out.new.c.has_more ≡ false = c.if-c.false in
     let further = still_further c.args.c.now c.go_on.new.c (c.go_on.ensures.goes_on c.requires.unclosed c.requires.free) (sym w.sent.3.closed ∙ still) in
     let few = (c.requires.has.1 c.requires.unclosed).0 in
     let rests : c.go_on.new.c.has_more ≡ false = sym w.sent.2 ∙ none in
