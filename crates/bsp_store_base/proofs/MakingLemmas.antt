@@ -14,7 +14,7 @@ use Rattle.sqlite.specs.State.{ExecutesIn}
 use Rattle.sqlite.proofs.Callers.{IsPlain, command_of, statement_of, through}
 use Rattle.bsp_store_base.specs.Made.{HasNoRows}
 use Rattle.bsp_store_base.specs.Schema.{no_schema, our_schema, our_tables}
-use Rattle.bsp_store_base.specs.declared.described.TheConstants.{TABLES}
+use Rattle.bsp_store_base.specs.declared.made.TheConstants.{TABLES}
 use Rattle.bsp_store_base.proofs.Writing.{same_value}
 
 -- ---- one statement of a text

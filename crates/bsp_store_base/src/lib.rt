@@ -7,7 +7,6 @@
 #![tactic(auto)]
 
 mod airlines;
-mod described;
 mod digits;
 mod keyed_table;
 mod made;
@@ -18,9 +17,6 @@ mod taxes;
 mod tickets;
 
 pub use airlines::{AirlineEntry, place_of};
-pub use described::{
-    AGENT, AIRLINE, ITEM, ITEM_TAX, MEMO, SECOND_RELATED, STOCK, TALLY, TALLY_TAX,
-};
 pub use digits::{agent_digits, airline_digits, number_digits, period_digits};
 pub use keyed_table::{KeyedTable, Statements, put};
 pub use made::{is_bare, make_tables};

@@ -10,8 +10,7 @@ ghost use Rattle.bsp_store_rows.specs.Cells.{written};
 use crate::cells::{Cell, run};
 use bsp_rows::{AgentCode, DocNumber, RangeKey, Token};
 use bsp_store_base::{
-    AGENT, KeyedTable, STOCK, Statements, agent_at, agent_digits, number_at, number_digits,
-    token_at,
+    KeyedTable, Statements, agent_at, agent_digits, number_at, number_digits, token_at,
 };
 use sqlite::{Alter, Connection, Error, Row};
 use sqlite_value::value::ValueRef;
@@ -54,7 +53,12 @@ impl KeyedTable<AgentCode, Token> for Agents {
 
     #[tactic(auto, using(crate::proofs::Tables::agents_lawful))]
     fn statements(&self) -> Statements {
-        AGENT
+        Statements {
+            delete: "DELETE FROM agent WHERE code = ?1",
+            insert: "INSERT INTO agent (code, token) VALUES (?1, ?2)",
+            update: "UPDATE agent SET token = ?2 WHERE code = ?1",
+            query: "SELECT code, token FROM agent ORDER BY code",
+        }
     }
 
     fn run_on_key<S: Alter>(
@@ -120,7 +124,12 @@ impl KeyedTable<RangeKey, DocNumber> for Ranges {
 
     #[tactic(auto, using(crate::proofs::Tables::ranges_lawful))]
     fn statements(&self) -> Statements {
-        STOCK
+        Statements {
+            delete: "DELETE FROM stock WHERE agent = ?1 AND lo = ?2",
+            insert: "INSERT INTO stock (agent, lo, hi) VALUES (?1, ?2, ?3)",
+            update: "UPDATE stock SET hi = ?3 WHERE agent = ?1 AND lo = ?2",
+            query: "SELECT agent, lo, hi FROM stock ORDER BY agent, lo",
+        }
     }
 
     fn run_on_key<S: Alter>(

@@ -11,8 +11,8 @@ ghost use Rattle.bsp_store_rows.specs.MemoReading.{IsMemoIn, kind_in, memo_key_i
 use crate::cells::{Cell, run};
 use bsp_rows::{Day, Memo, MemoFields, MemoKey, MemoKind, MemoState, PeriodCode, Reason};
 use bsp_store_base::{
-    KeyedTable, MEMO, Statements, agent_at, agent_digits, airline_at, airline_digits, amount_at,
-    day_at, is_null, number_at, number_digits, period_at, period_digits,
+    KeyedTable, Statements, agent_at, agent_digits, airline_at, airline_digits, amount_at, day_at,
+    is_null, number_at, number_digits, period_at, period_digits,
 };
 use sqlite::{Alter, Connection, Error, Row};
 use sqlite_value::value::ValueRef;
@@ -94,7 +94,15 @@ impl KeyedTable<MemoKey, Memo> for Memos {
 
     #[tactic(auto, using(crate::proofs::Tables::memos_lawful))]
     fn statements(&self) -> Statements {
-        MEMO
+        Statements {
+            delete: "DELETE FROM memo WHERE airline = ?1 AND number = ?2",
+            insert: "INSERT INTO memo (airline, number, agent, kind, amount, first_amount, reason, issued, state, \
+                billed) VALUES (?1, ?2, ?3, ?4, ?5, ?6, ?7, ?8, ?9, ?10)",
+            update: "UPDATE memo SET agent = ?3, kind = ?4, amount = ?5, first_amount = ?6, reason = ?7, issued = ?8, \
+                state = ?9, billed = ?10 WHERE airline = ?1 AND number = ?2",
+            query: "SELECT airline, number, agent, kind, amount, first_amount, reason, issued, state, billed FROM memo \
+                ORDER BY airline, number",
+        }
     }
 
     fn run_on_key<S: Alter>(
