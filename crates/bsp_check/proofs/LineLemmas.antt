@@ -75,11 +75,6 @@ whole_line text line rest more first b is =
     let same : line ≡ first = same_first (lines (text ++ more)) line first (lines (rest ++ more)) is.0 (ended_goes text line rest more b) is.1 in
     (lines rest, (first_ended text line rest b).cut ∙ ap (λ (x : List ℕ). x ∷ lines rest) same)
 
-nothing_more : (text more first : List ℕ) → more ≡ [] → IsLine 0 (lines (text ++ more)) first → IsLine 0 (lines text) first
-nothing_more text more first none is =
-    let Line : List ℕ → Type 0 = λ xs. IsLine 0 (lines xs) first in
-    subst Line (ap (λ xs. text ++ xs) none ∙ append-nil text) is
-
 -- ---- a line that is longer than a window
 
 -- bytes without an end are before the window, whose first byte is none

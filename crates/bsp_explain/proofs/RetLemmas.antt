@@ -97,9 +97,6 @@ fare_is line rest = simp and-true
 amounts-parts : (a b c d e : Bool) → (a && b && c && d && e) ≡ (a && (b && (c && (d && (e && true)))))
 amounts-parts a b c d e = simp (and_assoc, and-true)
 
-after_taxes : (line : List ℕ) (a b : Bool) → (a && b && all_fit line commission_fields) ≡ (a && (b && all_fit line commission_fields))
-after_taxes line a b = and_assoc a b (all_fit line commission_fields)
-
 commission_is : (line : List ℕ) (a b : Bool) → a ≡ is_amount (columns 8 18 line) → b ≡ all_fit line (tax_fields 19 line) → amounts_fit line ≡ (a && (b && all_fit line commission_fields))
 unfolding all_fit fits amounts_fit
 commission_is line a b fare taxes = rw (← ret_taxes line, ← taxes, ← fare) (amounts-parts a b _ _ _)

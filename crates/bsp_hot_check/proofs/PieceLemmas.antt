@@ -32,10 +32,6 @@ abbrev first_of : List (List ℕ) → List ℕ
 first_of [] = []
 first_of (line ∷ lines) = line
 
-abbrev rest_of : List (List ℕ) → List (List ℕ)
-rest_of [] = []
-rest_of (line ∷ lines) = lines
-
 first_joined : (b n : ℕ) (xs : List (List ℕ)) → length (first_of xs) ≤ n → length (first_of (with_first b xs)) ≤ suc n
 first_joined b n [] short = omega arith
 first_joined b n (line ∷ lines) short = omega (arith, short)
@@ -75,10 +71,6 @@ pub record Goes (text more : List ℕ) : Type 0 where
   pub ls : List (List ℕ)
   pub are : lines (text ++ more) ≡ line ∷ ls
   pub long : length text ≤ length line + 1
-
-joined : (b : ℕ) (xs : List (List ℕ)) → (line : List ℕ) × (ls : List (List ℕ)) × (with_first b xs ≡ line ∷ ls)
-joined b [] = (b ∷ [], [], refl)
-joined b (line ∷ xs) = (b ∷ line, xs, refl)
 
 one_goes : (b : ℕ) (more : List ℕ) → Goes (b ∷ []) more
 one_goes b [] =

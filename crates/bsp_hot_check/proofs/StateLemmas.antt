@@ -115,10 +115,6 @@ pub unended_faulty : (ls : List (List ℕ)) (at : Standing) → is_at Ended at.p
 unended_faulty ls at unended is =
     faulty ls (at.records + 1) (ap (judge_from start) (sym (append-nil ls)) ∙ stands_judged ls [] start at is ∙ judge_nil at ∙ rw unended refl)
 
--- what a whole text is, by its last state
-pub ended_judged : (ls : List (List ℕ)) (at : Standing) → stands_after start ls ≡ Some at → judge_from start ls ≡ judge_from at []
-ended_judged ls at is = ap (judge_from start) (sym (append-nil ls)) ∙ stands_judged ls [] start at is
-
 -- the lines before the next one have the state
 pub before_is : (ls more : List (List ℕ)) (at : Standing) → stands_after start ls ≡ Some at → take at.records (ls ++ more) ≡ ls
 before_is ls more at is =

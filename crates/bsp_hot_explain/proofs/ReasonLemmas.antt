@@ -48,10 +48,3 @@ refused_step at line r read none = rw read none
 
 pub allowed_step : (at : Standing) (line : List ℕ) (r : Record) → judged_at (form_at at.heading) (at.records + 1) line ≡ Some r → IsSome (step at r) → IsSome (step_line at line)
 allowed_step at line r read some = rw read some
-
-unread : (o : Option FileRecord) → IsSome o → option_map judged o ≡ None → ⊥
-unread (Some r) some none = cc
-unread None some none = false≢true some
-
-pub never_unread : (form : FileForm) (n : ℕ) (line : List ℕ) → IsSome (record_at form n line) → judged_at form n line ≡ None → ⊥
-never_unread form n line some none = unread (record_at form n line) some none

@@ -157,9 +157,6 @@ other_left Ended form n line more with going = absurd (going refl)
 
 -- ---- a line more
 
-abbrev Counted : HotList → ℕ → Type 0
-Counted list n = list.next ≤ n + 1
-
 next_all : (ls more : Lines) (line : List ℕ) → list_text (ls ++ line ∷ more) ≡ list_text ((ls ++ line ∷ []) ++ more)
 next_all ls more line = ap list_text (sym (append_assoc ls (line ∷ []) more))
 

@@ -47,10 +47,6 @@ member_once (x ∷ xs) q = at (q == x) refl (member_once xs q) where
   at true e rest = ap (λ c. c || member (filter (λ y. not (same x y)) (once same xs)) q) e ∙ sym (ap (λ c. c || member xs q) e)
   at false e rest = ap (λ c. (q == x) || c) (kept_apart x q (once same xs) e ∙ rest)
 
-not_true : (b : Bool) → not b ≡ true → b ≡ false
-not_true true h = absurd (cc h)
-not_true false h = refl
-
 others_apart : (x : ℕ) (ys : List ℕ) → AllByRecursion (λ y. same x y ≡ false) (filter (λ y. not (same x y)) ys)
 others_apart x [] = tt
 others_apart x (y ∷ ys) = at (same x y) refl (others_apart x ys) where

@@ -111,12 +111,3 @@ three_forms last.Sale = omega arith
 three_forms last.Related = omega arith
 three_forms last.Amounts = omega arith
 three_forms last.Trailer = omega arith
-
--- the kind of the last record, behind one more
-pub kind_with : (at : Standing) (next : Record) → forms_up_to (standing_with at next).last ≡ forms_up_to (kind next)
-kind_with at (said.Header profile) = refl
-kind_with at (said.Sale code) = refl
-kind_with at (said.Related order) = refl
-kind_with at said.Amounts = refl
-kind_with at (said.Form form amount) = refl
-kind_with at said.Trailer = refl

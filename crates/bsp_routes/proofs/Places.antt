@@ -20,12 +20,6 @@ second_value (After w) a b path h = no_second b path h.2
 second_value (Between w z) a b path h = no_second b path h.2
 second_value (Two w z) a b path h = end_rest path b (w ++ (a ++ z)) (h.0 ∙ sym (append_assoc w (a ++ z) b ∙ ap (λ l. w ++ l) (append_assoc a z b)))
 
-pub first_fits : (f : Form) (a b path : List ℕ) → Fits f a b path → bytes_before f + length a ≤ length path
-first_fits (Fixed w) a b path h = omega (arith, ap length h.1)
-first_fits (After w) a b path h = omega (arith, ap length h.0, length-append w a)
-first_fits (Between w z) a b path h = omega (arith, ap length h.0, length-append w (a ++ z), length-append a z)
-first_fits (Two w z) a b path h = omega (arith, ap length h.0, length-append w (a ++ (z ++ b)), length-append a (z ++ b))
-
 pub second_fits : (f : Form) (a b path : List ℕ) → Fits f a b path → length b ≤ length path
 second_fits (Fixed w) a b path h = omega (arith, ap length h.2)
 second_fits (After w) a b path h = omega (arith, ap length h.2)

@@ -142,10 +142,6 @@ pub record IsTalliedMemo (m : MemoFields) : Type 0 where
   pub airline : IsAirline m.airline
   pub billed : IfSome m.billed (λ period. period < 10 ^ 5)
 
-all_weaker : {A : Type 0} (P Q : A → Type 0) (xs : List A) → ((x : A) → P x → Q x) → AllByRecursion P xs → AllByRecursion Q xs
-all_weaker P Q [] so all = tt
-all_weaker P Q (x ∷ xs) so all = (so x all.0, all_weaker P Q xs so all.1)
-
 item_tallied : (k : TallyKey) (i : Item) → IsTalliedItem i → is_item_under (key_tally k) i ≡ true → IsTallyKey k
 item_tallied k i formed under =
     let agent = and_parts (i.agent == k.agent) _ under in

@@ -153,10 +153,6 @@ no_index t (i ∷ is) e = let both = and_parts _ _ e in (eqb-false _ _ (not-true
 abbrev pub apart : Schema → ℕ → ℕ → Bool
 apart schema tree x = not (x == tree) && list_all (λ i. not (i.tree == x)) schema.indexes
 
-numbered-given : (rows news : List Row) → numbered Given rows news ≡ news
-numbered-given rows [] = refl
-numbered-given rows (n ∷ news) = ap (λ l. n ∷ l) (numbered-given (put_row n rows) news)
-
 -- ---- the statements
 
 -- INSERT of these columns, read from each row of the table of a tree

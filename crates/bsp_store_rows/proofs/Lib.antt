@@ -1,4 +1,3 @@
-pub mod Back
 pub mod Orders
 pub mod MetaTable
 pub mod PlacedTables
