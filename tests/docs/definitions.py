@@ -23,6 +23,7 @@ WORD = re.compile(r"(?<![\w.])(?:(?:\w+)\.)?[^\W\d][\w\-']*")
 LIST = re.compile(r"ghost use Rattle\.(bsp_\w+)\.specs\.([\w.]+)\.\{([^}]*)\}")
 WHOLE = re.compile(r"ghost use Rattle\.(bsp_\w+)\.specs\.([\w.]+) as (\w+);")
 GIVEN = re.compile(r"^pub use Rattle\.(bsp_\w+)\.specs\.([\w.]+)(?: as (\w+))?$", re.M)
+PASSED = re.compile(r"^(?:unfoldable )?pub use Rattle\.(\w+)\.(specs|proofs)\.([\w.]+)\.\{([^}]*)\}$", re.M)
 ITEM = re.compile(r"^(pub )?(?:trait (\w+)|(?:struct|enum) (\w+)|impl\b(.*))")
 FUNCTION = re.compile(r"^\s*(pub(?:\s*\([^)]*\))?\s+)?(?:const\s+)?fn\s+\w+")
 CLAUSE = re.compile(r"^\s*(requires|ensures|ghost (?!use\b)\w+)\b[^{]*\{")
@@ -43,12 +44,28 @@ def home(crate, path):
     return crate
 
 
+@functools.cache
+def passed_on(crate, path):
+    """The names that a module of the specs of a crate only passes on, each with its crate and its module there."""
+    module = TOP / "crates" / crate / "specs" / f"{path.replace('.', '/')}.antt"
+    found = PASSED.findall(module.read_text(encoding="utf-8")) if module.exists() else []
+    return {name.strip(): (of, there) for of, _, there, listed in found for name in listed.split(",")}
+
+
+def home_of(crate, path, name):
+    """The crate that declares a name of this module, or none where it is of the kit."""
+    while name in passed_on(crate, path):
+        crate, path = passed_on(crate, path)[name]
+    return home(crate, path) if crate.startswith("bsp_") else None
+
+
 def names_of(text):
     """The names that a file imports, each with its crate and its name there; and the modules that it imports whole."""
     names = {}
     for crate, path, listed in LIST.findall(text):
         for name in filter(None, (it.strip() for it in listed.split(","))):
-            names[name.split(" as ")[-1].strip()] = home(crate, path), name.split(" as ")[0].strip()
+            if of := home_of(crate, path, name.split(" as ")[0].strip()):
+                names[name.split(" as ")[-1].strip()] = of, name.split(" as ")[0].strip()
     return names, {alias: home(crate, path) for crate, path, alias in WHOLE.findall(text)}
 
 

@@ -1,9 +1,6 @@
 -- The map of the airlines: what is at each of them, and what one more publication or another token makes of it.
 use Rattle.std.proofs.Common.{◌≡◌, ℕ, ◌+◌, ◌<◌, ◌==◌, Bool, true, false, cond, List, [], ◌∷◌, ◌++◌, map, length, take, get_or, refl, sym, ap, ◌∙◌, Option, Some, None, eqb-true}
-use Rattle.std.specs.Option.{option_or}
-use Rattle.std.specs.Ordering.{eq_by_cmp, nat_cmp}
-use Rattle.std.specs.Cmp.{nat_cmp_total, unsigned_tied}
-use Rattle.std.specs.FinMap.{FinMap, entries, find, get, get-entries, get-from_entries, get-insert, insert}
+use Rattle.bsp_store_base.specs.Std.{entries, eq_by_cmp, find, FinMap, get, get-entries, get-from_entries, get-insert, insert, nat_cmp, nat_cmp_total, option_or, unsigned_tied}
 use Rattle.bsp_store_base.specs.Entries.{AirlineEntry}
 use Rattle.bsp_store_base.specs.Airlines.{airline_entries, entry_of, place_among, place_of, published_at, registered, unplaced, with_published}
 use Rattle.bsp_store_base.specs.Columns.{placed}

@@ -2,9 +2,7 @@
 use Rattle.std.proofs.Common.{◌≡◌, inl, inr, ap, subst, IsTrue, Option, Some, None, ◌≢◌, MatchOption}
 use Rattle.std.specs.Int.Signed.{◌<ℤ◌, <ℤ_irrefl}
 use Rattle.bsp_store_base.specs.Sqlite.{Int, Value}
-use Rattle.bsp_store_base.specs.Entries.{CivilDay}
-use Rattle.bsp_rows.specs.CivilDay.{is_day}
-use Rattle.bsp_rows.specs.Days.{day_number}
+use Rattle.bsp_store_base.specs.Entries.{CivilDay, day_number, is_day}
 use Rattle.bsp_rows.proofs.DayOrderLemmas.{cases_days}
 
 -- a column has the number of one day

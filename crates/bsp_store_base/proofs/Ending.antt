@@ -2,11 +2,8 @@
 use Rattle.std.proofs.Common.{◌≡◌, ◌≢◌, inl, inr, ℕ, List, [], codes, true, false, Option, Some, None, Ok, Err, Result, IsTrue, refl, sym, ap, ◌∙◌, subst, true≢false, length, nat_le}
 use Rattle.std.proofs.lemmas.Bool.{both_ways, leb-true}
 use Rattle.bsp_store_base.specs.Sqlite.{Begin, Command, Commit, CompileError, Compiled, Database, Does, Error, Executes, IsMisplaced, IsRolledBack, MayCommit, Release, Returning, Rollback, Row, RunsCommand, Schema, Shows, State, Tally, Trees, mode_of, shows_rows, text_of, timed}
-use Rattle.sqlite_tied.specs.Compute.{everything}
+use Rattle.bsp_store_base.proofs.Sqlite.{command_of, CommitsBy, everything, ExecutesIn, IsNotRun, runs_as, understood}
 use Rattle.sqlite.specs.Calls.{IsWrite}
-use Rattle.sqlite.specs.Listing.{understood}
-use Rattle.sqlite.specs.State.{ExecutesIn, IsNotRun, CommitsBy}
-use Rattle.sqlite.proofs.Callers.{command_of, runs_as}
 use Rattle.bsp_store_base.proofs.Ends.{ends_any, plain_any}
 
 pub begins : (old new : State) (count : ℕ) → Executes (codes "BEGIN") [] old new (Ok count) → Shows old new old.now old.committed true

@@ -1,10 +1,8 @@
 -- From what a call ensures to what the tables keep, whatever the tables are.
-use Rattle.std.proofs.Common.{◌≡◌, ◌≢◌, cond, ◌∙◌, ◌⊎◌, inl, inr, ℕ, List, [], codes, false, None, Ok, Err, Result, OnOk, OnErr, IsTrue, sym, ap, subst, arith}
+use Rattle.bsp_store_base.proofs.Std.{[], ◌∙◌, ◌≡◌, ◌≢◌, ◌⊎◌, ap, arith, both_ways, codes, cond, Err, false, inl, inr, IsTrue, List, None, Ok, OnErr, OnOk, Result, subst, sym, ℕ}
 use Rattle.bsp_store_base.specs.Sqlite.{Command, Commit, CommitsBy, Database, Error, Executes, Ghosts, HasCleanDisk, Held, IsDatabase, IsRolledBack, IsUnchanged, Release, Rollback, Row, Runs, ShowsRows, State, Survives, Trees, Writes, state, timed, understood}
-use Rattle.sqlite.specs.State.{Shown}
+use Rattle.bsp_store_base.proofs.Sqlite.{command_of, IsPlain, runs_as, Shown, statement_of}
 use Rattle.sqlite.proofs.InsideLemmas.{fails_whole, unchanged_keeps}
-use Rattle.std.proofs.lemmas.Bool.{both_ways}
-use Rattle.sqlite.proofs.Callers.{runs_as, IsPlain, command_of, statement_of}
 use Rattle.bsp_store_base.specs.Kept.{AreTreesOf, Form, Keeps, KeepsSound, HasContents, HasCommitted, IsInside, IsOutside}
 use Rattle.bsp_store_base.proofs.Ends.{ends_any}
 use Rattle.bsp_store_base.proofs.Ending.{quiet, begins, commits, undoes, begin_commits_nothing, commits_now}

@@ -1,13 +1,5 @@
 -- Codes in decimal digits, as the WHERE of a key compares its columns.
-use Rattle.std.proofs.Common.{◌≡◌, ℕ, zero, suc, ◌+◌, ◌^◌, ◌<◌, Bool, true, false, ◌&&◌, cond, refl, subst, sym, ap, ap₂, ◌∙◌, arith, Ordering, Less, Equal, Greater, is_eq, nat_cmp, nat_lt, pos, Decides, bytes_eq}
-use Rattle.std.specs.Ordering.{bool_cmp, ordering_then}
-use Rattle.std.specs.Cmp.{Equal-is, nat_cmp_total, tied_itself}
-use Rattle.std.specs.FinMap.{nat_cmp-IsAntisymmetric}
-use Rattle.std.proofs.Math.Nat.{pow-suc, pow-le-pow_right}
-use Rattle.std.proofs.lemmas.Bool.{cond_both, ltb-true, lt-ltb}
-use Rattle.std.proofs.lemmas.Bool.Decides.{same_from_decides}
-use Rattle.std.proofs.lemmas.Map.Text.{is_eq-slice_cmp}
-use Rattle.std.proofs.lemmas.Slice.Eq.{bytes_eq-Decides}
+use Rattle.bsp_store_base.proofs.Std.{◌&&◌, ◌+◌, ◌<◌, ◌^◌, ◌∙◌, ◌≡◌, ap, ap₂, arith, Bool, bool_cmp, bytes_eq, bytes_eq-Decides, cond, cond_both, Decides, Equal, Equal-is, false, Greater, is_eq, is_eq-slice_cmp, Less, lt-ltb, ltb-true, nat_cmp, nat_cmp-IsAntisymmetric, nat_cmp_total, nat_lt, Ordering, ordering_then, pos, pow-le-pow_right, pow-suc, refl, same_from_decides, subst, suc, sym, tied_itself, true, zero, ℕ}
 use Rattle.bsp_store_base.specs.Sqlite.{Binary, Compare, Eq, Text, binary, is_true}
 use Rattle.bsp_rows.specs.Decimal.{number_of, fixed_digits}
 use Rattle.bsp_rows.proofs.DecimalLemmas.{number_of-fixed_digits}

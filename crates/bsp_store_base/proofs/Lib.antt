@@ -19,3 +19,7 @@ pub mod MapTables
 pub mod SecondLemmas
 pub mod ReadBack
 pub mod MakingLemmas
+pub mod Std
+pub mod Sqlite
+pub mod Entries
+pub mod Base

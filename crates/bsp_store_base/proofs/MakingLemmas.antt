@@ -1,17 +1,9 @@
 -- The text of the tables makes them in a store that has nothing, one statement after the other.
-use Rattle.std.proofs.Common.{◌≡◌, ℕ, zero, suc, List, [], ◌∷◌, append-nil, drop, fold, length, take, inl, inr, false, true, None, Ok, Err, Option, Result, OnOk, Some, refl, sym, ap, subst, subst₂, ◌∙◌, nat_lt}
-use Rattle.std.specs.Fmt.{digits}
-use Rattle.std.proofs.lemmas.Bool.{cases_Bool}
-use Rattle.std.proofs.lemmas.Option.{none-some, same_Some}
+use Rattle.bsp_store_base.proofs.Std.{[], ◌∙◌, ◌∷◌, ◌≡◌, ap, append-nil, cases_Bool, digits, drop, Err, false, fold, inl, inr, length, List, nat_lt, None, none-some, Ok, OnOk, Option, refl, Result, same_Some, Some, subst, subst₂, suc, sym, take, true, zero, ℕ}
 use Rattle.bsp_store_base.specs.Sqlite.{Command, CompileError, Compiled, CreateTable, Database, Error, Ghosts, Gives, HasCleanDisk, Held, MakesSequence, MakesTable, Returning, Row, Runs, Schema, State, Table, Tally, Then, Writes, lacks_sequence, no_rows, shows_rows, state, text_of, timed}
-use Rattle.sqlite_trees.proofs.ListLemmas.{all-append, all_both}
-use Rattle.sqlite_resolve.specs.Compile.{table_defined_by}
+use Rattle.bsp_store_base.proofs.Sqlite.{all-append, all_both, command_of, everything, ExecutesIn, IsPlain, statement_of, table_defined_by, through, understood}
 use Rattle.sqlite_catalog.specs.Change.{KeepsRows, created, next_tree}
-use Rattle.sqlite_tied.specs.Compute.{everything}
 use Rattle.sqlite.specs.Batch.{ExecutesAllInside, RunInTurn, first_len}
-use Rattle.sqlite.specs.Listing.{understood}
-use Rattle.sqlite.specs.State.{ExecutesIn}
-use Rattle.sqlite.proofs.Callers.{IsPlain, command_of, statement_of, through}
 use Rattle.bsp_store_base.specs.Made.{HasNoRows}
 use Rattle.bsp_store_base.specs.Schema.{no_schema, our_schema, our_tables}
 use Rattle.bsp_store_base.specs.declared.made.TheConstants.{TABLES}

@@ -1,8 +1,5 @@
 -- What DELETE, INSERT and UPDATE by a key make of a table, and what a value, or none, makes of the content.
-use Rattle.std.proofs.Common.{◌≡◌, ℕ, ◌+◌, List, [], ◌∷◌, map, Bool, true, false, is_some, Option, Some, None, Ok, Result, OnOk, OnErr, refl, sym, ap, ap₂, ◌∙◌, subst, Ordering}
-use Rattle.std.specs.List.{range_with_len}
-use Rattle.std.specs.Ordering.{eq_by_cmp}
-use Rattle.std.specs.FinMap.{entries, get, insert, remove}
+use Rattle.bsp_store_base.proofs.Std.{[], ◌+◌, ◌∙◌, ◌∷◌, ◌≡◌, ap, ap₂, Bool, entries, eq_by_cmp, false, get, insert, is_some, List, map, None, Ok, OnErr, OnOk, Option, Ordering, range_with_len, refl, remove, Result, Some, subst, sym, true, ℕ}
 use Rattle.bsp_store_base.specs.Sqlite.{Column, CommitsBy, Error, Executes, Ghosts, HasCleanDisk, Held, IsAscending, Null, Output, Row, State, Survives, Trees, col, eval_all, lit, reads_listing, rowid, state}
 use Rattle.sqlite_trees.proofs.ListLemmas.{IsPermutation-same}
 use Rattle.bsp_store_base.specs.Schema.{our_schema}

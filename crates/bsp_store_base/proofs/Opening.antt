@@ -1,11 +1,9 @@
 -- What a query for a whole table shows.
 use Rattle.std.proofs.Common.{◌≡◌, Less, ℕ, List, [], ◌++◌, map, filter, false, Ok, Err, Result, refl, sym, ap, ◌∙◌, subst, IsPermutation, map-id}
-use Rattle.std.specs.List.{range_with_len}
-use Rattle.std.proofs.lemmas.List.Sorted.{IsPermutation-refl, IsPermutation-map}
+use Rattle.bsp_store_base.proofs.Std.{IsPermutation-map, IsPermutation-refl, range_with_len}
 use Rattle.bsp_store_base.specs.Sqlite.{Begins, Command, CompileError, Compiled, IsAnswer, IsAscending, IsUnchanged, Key, Null, Output, Query, Row, Select, Shown, State, Term, Trees, col, output_cmp, overlay, reads_listing, timed, understood}
-use Rattle.sqlite_trees.proofs.ListLemmas.{map-map, filter_all, all_of}
+use Rattle.bsp_store_base.proofs.Sqlite.{all_of, begins_shown, command_of, EndsIn, filter_all, IsPlain, map-map, reads_as}
 use Rattle.sqlite_keyed.proofs.ListLemmas.{ascending-map, map_same}
-use Rattle.sqlite.proofs.Callers.{EndsIn, reads_as, IsPlain, begins_shown, command_of}
 use Rattle.bsp_store_base.specs.Schema.{our_schema}
 use Rattle.bsp_store_base.specs.Content.{Content, form, width_of}
 use Rattle.bsp_store_base.specs.Forms.{IsFormed}

@@ -1,12 +1,8 @@
 -- Codes in decimal digits, as ORDER BY compares them, and the rows of a table in that order.
 use Rattle.std.proofs.Common.{◌≡◌, ℕ, zero, suc, ◌+◌, ◌/◌, ◌%◌, ◌^◌, ◌<◌, List, [], ◌∷◌, ◌++◌, map, length, Bool, true, false, refl, sym, ap, ap₂, ◌∙◌, arith, Ordering, Less, Equal, Greater, nat_cmp, int_cmp, pos, lt-ltb}
-use Rattle.std.specs.Ordering.{bool_cmp, ordering_then}
-use Rattle.std.specs.Cmp.Lexicographic.{slice_cmp}
-use Rattle.std.specs.List.{AllByRecursion}
-use Rattle.std.proofs.lemmas.Bool.Decides.{nat_tests}
+use Rattle.bsp_store_base.proofs.Std.{AllByRecursion, bool_cmp, nat_tests, ordering_then, slice_cmp}
 use Rattle.bsp_store_base.specs.Sqlite.{IsAscending, Key, Row, Term, Text, value_cmp}
-use Rattle.sqlite_value.proofs.OrderLemmas.{value_cmp-Text, value_cmp-Int, then-Equal}
-use Rattle.sqlite_trees.proofs.ListLemmas.{all_of}
+use Rattle.bsp_store_base.proofs.Sqlite.{all_of, then-Equal, value_cmp-Int, value_cmp-Text}
 use Rattle.bsp_rows.specs.Decimal.{fixed_digits}
 use Rattle.bsp_rows.proofs.DecimalLemmas.{length-fixed_digits}
 use Rattle.bsp_store_base.specs.Columns.{code_digits, flag, count, placed}

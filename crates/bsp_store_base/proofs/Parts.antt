@@ -1,8 +1,5 @@
 -- A write to one table, and what the book's tables keep after it.
-use Rattle.std.proofs.Common.{◌≡◌, ◌≢◌, ℕ, ◌==◌, Bool, true, false, not, List, [], ◌∷◌, refl, sym, subst, IsPermutation, MatchBool}
-use Rattle.std.specs.List.{AllByRecursion, list_all}
-use Rattle.std.proofs.lemmas.Bool.{and_parts, not-true, eqb-true, eqb-false}
-use Rattle.std.proofs.lemmas.List.Sorted.{IsPermutation-trans}
+use Rattle.bsp_store_base.proofs.Std.{[], ◌==◌, ◌∷◌, ◌≡◌, ◌≢◌, AllByRecursion, and_parts, Bool, eqb-false, eqb-true, false, IsPermutation, IsPermutation-trans, List, list_all, MatchBool, not, not-true, refl, subst, sym, true, ℕ}
 use Rattle.bsp_store_base.specs.Sqlite.{Database, Index, IsNoIndex, Row, Schema, Trees}
 use Rattle.bsp_store_base.specs.Kept.{KeepsTable, Part, Form, Keeps, HasRowsNow}
 

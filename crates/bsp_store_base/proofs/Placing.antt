@@ -1,6 +1,5 @@
 -- A list with its places, and what comes next in it.
-use Rattle.std.proofs.Common.{◌≡◌, ℕ, ◌+◌, ◌<◌, List, [], ◌∷◌, ◌++◌, length, take, get_or, refl, sym, ap, ◌∙◌, arith}
-use Rattle.std.proofs.lemmas.List.{length-take-le, take_more}
+use Rattle.bsp_store_base.proofs.Std.{[], ◌++◌, ◌+◌, ◌<◌, ◌∙◌, ◌∷◌, ◌≡◌, ap, arith, get_or, length, length-take-le, List, refl, sym, take, take_more, ℕ}
 use Rattle.bsp_store_base.specs.Columns.{placed}
 
 pub placed_last : {A : Type 0} (before : ℕ) (xs : List A) (x : A) → placed before (xs ++ x ∷ []) ≡ placed before xs ++ (before + (length xs + 1), x) ∷ []

@@ -1,12 +1,9 @@
 -- A query over one table, read through a view of its rows.
 use Rattle.std.proofs.Common.{◌≡◌, ℕ, ℤ, List, [], ◌∷◌, map, filter, Bool, true, false, not, ◌||◌, cond, inl, inr, refl, sym, ap, ◌∙◌, subst, subst₂, true≢false, Ordering, Less, Equal, Greater, is_eq, IsPermutation, ap₂}
-use Rattle.std.specs.List.{list_all, list_any, flat_map, AllByRecursion}
-use Rattle.std.proofs.lemmas.List.Sorted.{IsPermutation-trans, IsPermutation-sym, IsPermutation-map, IsPermutation-refl, IsPermutation-cons, IsPermutation-middle, list_any-IsPermutation}
-use Rattle.std.proofs.lemmas.Bool.{cases_Bool}
+use Rattle.bsp_store_base.proofs.Std.{AllByRecursion, cases_Bool, flat_map, IsPermutation-cons, IsPermutation-map, IsPermutation-middle, IsPermutation-refl, IsPermutation-sym, IsPermutation-trans, list_all, list_any, list_any-IsPermutation}
 use Rattle.std.proofs.lemmas.Cmp.{tied_itself}
 use Rattle.bsp_store_base.specs.Sqlite.{IsAnswer, IsAscending, IsTable, Key, Null, Output, Query, Row, Term, Trees, has_rowid, holds, id_in, is_int, is_taken, output, output_cmp, put_row, rowid, value_cmp, without_all, without_rowid}
-use Rattle.sqlite_value.proofs.OrderLemmas.{value_cmp_total}
-use Rattle.sqlite_trees.proofs.ListLemmas.{filter-map, map-map, filter_same, filter_all, all_of, all_both, all_weaker, all-filter, IsPermutation-filter}
+use Rattle.bsp_store_base.proofs.Sqlite.{all-filter, all_both, all_of, all_weaker, filter-map, filter_all, filter_same, IsPermutation-filter, map-map, value_cmp_total}
 use Rattle.sqlite_sql.proofs.QueryLemmas.{output_cmp_total}
 use Rattle.sqlite_rules.proofs.TableLemmas.{int_is}
 pub use Rattle.bsp_store_base.specs.Simple.{simple}

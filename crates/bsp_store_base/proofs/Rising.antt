@@ -1,8 +1,5 @@
 -- Rows that rise by their keys.
-use Rattle.std.proofs.Common.{◌≡◌, List, [], ◌∷◌, map, T, Ordering, Less}
-use Rattle.std.specs.List.{AllByRecursion}
-use Rattle.std.specs.FinMap.{FinMap, entries, entries_sorted}
-use Rattle.std.specs.FinMap.Entries.{below_all, is_sorted}
+use Rattle.bsp_store_base.proofs.Std.{[], ◌∷◌, ◌≡◌, AllByRecursion, below_all, entries, entries_sorted, FinMap, is_sorted, Less, List, map, Ordering, T}
 use Rattle.bsp_maps.proofs.Orderings.{first, second, less}
 use Rattle.bsp_store_base.specs.Sqlite.{IsAscending, Key, Null, Row, Term, eval_all, key_cmp}
 

@@ -1,24 +1,13 @@
 -- The second related documents of items: what is at a ticket, and what one item more or less makes of them.
-use Rattle.std.proofs.Common.{◌≡◌, Bool, true, false, cond, List, [], ◌∷◌, refl, sym, ap, ap₂, subst, ◌∙◌, Ordering, Less, Equal, Greater, nat_cmp, is_eq, Option, Some, None, T}
-use Rattle.std.specs.List.{cons_option, filter_map}
-use Rattle.std.specs.Ordering.{bool_cmp, eq_by_cmp, is_lt, ordering_then}
-use Rattle.std.specs.Cmp.{Equal-is, IsTotalOrder, nat_cmp_total, on_total, then_total}
-use Rattle.std.specs.FinMap.{FinMap, IsAntisymmetric, entries, entries-from_sorted, entries_sorted, find, get, get-entries, get-from_sorted, nat_cmp-IsAntisymmetric, same_map}
-use Rattle.std.specs.FinMap.Entries.{below_all, is_sorted}
+use Rattle.bsp_store_base.proofs.Std.{[], ◌∙◌, ◌∷◌, ◌≡◌, ap, ap₂, below_all, Bool, bool_cmp, cond, cons_option, entries, entries-from_sorted, entries_sorted, eq_by_cmp, Equal, Equal-is, false, filter_map, find, FinMap, get, get-entries, get-from_sorted, Greater, is_eq, is_lt, is_sorted, IsAntisymmetric, Less, List, nat_cmp, nat_cmp-IsAntisymmetric, None, Option, Ordering, ordering_then, refl, same_map, Some, subst, sym, T, true}
 use Rattle.sqlite_value.proofs.OrderLemmas.{then-Equal}
-use Rattle.bsp_maps.proofs.Orderings.{both, first, none_behind, second, then_equal}
-use Rattle.bsp_rows.specs.GroupValues.{second_of}
+use Rattle.bsp_store_base.proofs.Entries.{both, first, item_cmp, item_total, none_behind, second, second_of, then_equal}
 use Rattle.bsp_store_base.specs.Entries.{Item, ItemKey, ReportedDocument, TicketKey}
-use Rattle.bsp_rows.specs.Rows.{item_cmp}
-use Rattle.bsp_rows.proofs.KeyOrders.{item_total}
-use Rattle.bsp_store_base.specs.Seconds.{sale_at, second_entry, second_in, second_pair, seconds_of, ticket, ticket_cmp, with_second}
+use Rattle.bsp_store_base.specs.Seconds.{sale_at, second_entry, second_in, second_pair, seconds_of, ticket, ticket_cmp, ticket_total, with_second}
 use Rattle.bsp_store_base.specs.Synced.{with_value}
 use Rattle.bsp_store_base.proofs.Syncing.{get-with_value}
 
 -- ---- the order of tickets
-
-pub ticket_total : IsTotalOrder ticket_cmp
-ticket_total = then_total (on_total (λ (k : TicketKey). k.agent) nat_cmp_total) (on_total (λ (k : TicketKey). k.number) nat_cmp_total)
 
 pub ticket_exact : IsAntisymmetric ticket_cmp
 ticket_exact x y e =

@@ -1,13 +1,8 @@
 -- A map brought up to another one at some keys, and the rows of a map's table.
 use Rattle.std.proofs.Common.{◌≡◌, Bool, true, false, cond, not, ◌||◌, List, [], ◌∷◌, map, Option, Some, None, is_some, inl, inr, refl, sym, ap, ◌∙◌, subst, Ordering, Less, Equal, Greater, is_eq, filter, IsPermutation}
-use Rattle.std.specs.List.{list_any}
-use Rattle.std.specs.Ordering.{eq_by_cmp}
-use Rattle.std.specs.Cmp.{Equal-is, IsTotalOrder, eq_by_cmp_equiv, alike_right, tied_itself}
-use Rattle.std.specs.FinMap.{FinMap, IsAntisymmetric, get, insert, remove, entries, entries_sorted, get-entries, get-insert, get-remove, get_tied, entries-insert, same_map}
+use Rattle.bsp_store_base.proofs.Std.{alike_right, cases_Bool, entries, entries-insert, entries_sorted, eq_by_cmp, eq_by_cmp_equiv, Equal-is, FinMap, get, get-entries, get-insert, get-remove, get_tied, insert, IsAntisymmetric, IsPermutation-cons, IsPermutation-map, IsPermutation-middle, IsPermutation-refl, IsPermutation-sym, IsPermutation-trans, IsTotalOrder, list_any, remove, same_map, tied_itself}
 use Rattle.std.specs.FinMap.Entries.{find, put, by_order, where_key, is_sorted-where_key, find-where_key, same_entries}
-use Rattle.std.proofs.lemmas.List.Sorted.{IsPermutation-trans, IsPermutation-sym, IsPermutation-refl, IsPermutation-cons, IsPermutation-middle, IsPermutation-map}
 use Rattle.sqlite_trees.proofs.ListLemmas.{IsPermutation-filter}
-use Rattle.std.proofs.lemmas.Bool.{cases_Bool}
 use Rattle.bsp_maps.proofs.UndoLemmas.{put_back_same}
 use Rattle.bsp_store_base.proofs.Alone.{alone}
 use Rattle.bsp_store_base.specs.Synced.{with_value, synced}

@@ -1,6 +1,5 @@
 -- Values as columns make them, and as WHERE compares them.
-use Rattle.std.proofs.Common.{◌≡◌, ℕ, ℤ, List, [], ◌∷◌, Bool, true, false, ◌&&◌, cond, Option, Some, None, refl, ap, ap₂, ◌∙◌, is_eq, int_cmp, nat_cmp}
-use Rattle.std.specs.Cmp.Lexicographic.{slice_cmp}
+use Rattle.bsp_store_base.proofs.Std.{[], ◌&&◌, ◌∙◌, ◌∷◌, ◌≡◌, ap, ap₂, Bool, cond, false, int_cmp, is_eq, List, nat_cmp, None, Option, refl, slice_cmp, Some, true, ℕ, ℤ}
 use Rattle.bsp_store_base.specs.Sqlite.{Binary, Column, Compare, Eq, Int, Null, Text, Value, cast, cast_all, from_truth, is_true, or_null}
 use Rattle.sqlite_value.proofs.OrderLemmas.{value_cmp-Text, value_cmp-Int}
 use Rattle.sqlite_sql.specs.Ops.{binary, unary}

@@ -1,7 +1,5 @@
 -- What a write to one of our tables ensures, whichever table it is.
-use Rattle.std.proofs.Common.{◌≡◌, ℕ, ◌==◌, List, [], inl, inr, length, Ok, Err, Result, OnOk, OnErr, refl}
-use Rattle.std.specs.Prelude.{⊤}
-use Rattle.std.proofs.lemmas.Bool.{cases_Bool}
+use Rattle.bsp_store_base.proofs.Std.{[], ⊤, ◌==◌, ◌≡◌, cases_Bool, Err, inl, inr, length, List, Ok, OnErr, OnOk, refl, Result, ℕ}
 use Rattle.bsp_store_base.specs.Sqlite.{CommitsBy, Enforced, Error, Executes, Ghosts, HasCleanDisk, Held, Row, Survives, state, works}
 use Rattle.bsp_store_base.specs.Calls.{Changes, GivesUp}
 use Rattle.bsp_store_base.specs.Schema.{our_schema}

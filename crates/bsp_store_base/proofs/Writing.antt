@@ -1,15 +1,12 @@
 -- What INSERT, DELETE and UPDATE leave in a table.
 use Rattle.std.proofs.Common.{◌≡◌, ◌≢◌, ◌⊎◌, inl, inr, ℕ, ◌/◌, List, [], ◌∷◌, map, filter, Bool, true, false, not, Some, None, Ok, Err, Result, refl, sym, ap, ap₂, ◌∙◌, subst, drop, IsPermutation, length, slice_get, Option}
-use Rattle.std.specs.List.{AllByRecursion, list_all}
-use Rattle.std.proofs.lemmas.Bool.{MatchBool-at_false, and_parts, cond-false, not-true}
-use Rattle.std.proofs.lemmas.List.Sorted.{IsPermutation-trans, IsPermutation-map, IsPermutation-refl, IsPermutation-cons}
+use Rattle.bsp_store_base.proofs.Std.{AllByRecursion, and_parts, cond-false, IsPermutation-cons, IsPermutation-map, IsPermutation-refl, IsPermutation-trans, list_all, MatchBool-at_false, not-true}
 use Rattle.bsp_store_base.specs.Sqlite.{AtPlace, Blob, Command, Database, Delete, Enforced, Executes, Insert, Int, Integer, IsAnswer, IsNoIndex, Null, OnRows, OnTable, Output, Real, Row, Schema, State, Table, Tally, Task, Term, Text, Trees, Update, Value, Values, WritesRows, Written, are_fresh, cast, cast_all, cast_row, col, count_of, edit_of, eval_all, holds, id_in, is_int, is_taken, mode_of, next_rowid, numbered, overlay, put_all, put_row, rowid, rowids_for, stamped, taken_by, understood, value_rows, without_all, works}
-use Rattle.sqlite_trees.proofs.ListLemmas.{ascending-filter, map-map, all-filter}
+use Rattle.bsp_store_base.proofs.Sqlite.{all-filter, ascending-filter, command_of, IsPlain, map-map, one_step, runs_as}
 use Rattle.sqlite_trees.proofs.TreeLemmas.{IsTable-put_row, all-put_row}
 use Rattle.sqlite_schema.specs.declared.program.Program.{Program}
 use Rattle.sqlite_rules.specs.Calls.{ids_of}
 use Rattle.sqlite_rules.specs.declared.error.Rowids.TheVariants.{Chosen, Given}
-use Rattle.sqlite.proofs.Callers.{runs_as, command_of, one_step, IsPlain}
 use Rattle.bsp_store_base.specs.Kept.{KeepsTable, columns_of}
 use Rattle.bsp_store_base.proofs.ReadingLemmas.{simple, passes, out, rows_are, seen, put_fresh, taken_out}
 use Rattle.bsp_store_base.proofs.Alone.{alone, only}

@@ -1,8 +1,6 @@
 -- The airlines of a plan, and the tokens of airlines, as the entries of one map.
-use Rattle.std.specs.Prelude.{ℕ, ◌<◌, ◌^◌, ◌==◌, if◌then◌else◌, List, [], ◌∷◌, map, Option, Some, None}
-use Rattle.std.specs.FinMap.{FinMap, entries, from_entries, get, insert}
-use Rattle.std.specs.Option.{ForSome, option_or}
-use Rattle.std.specs.Ordering.{nat_cmp}
+use Rattle.std.specs.Prelude.{[], ◌<◌, ◌==◌, ◌^◌, ◌∷◌, if◌then◌else◌, List, map, None, Option, Some, ℕ}
+use Rattle.bsp_store_base.specs.Std.{entries, FinMap, from_entries, get, insert, ForSome, option_or, nat_cmp}
 use Rattle.bsp_store_base.specs.Entries.{AirlineEntry}
 use Rattle.bsp_store_base.specs.Columns.{placed}
 

@@ -1,5 +1,5 @@
 -- What the book keeps, as rows of tables: each entry is one row, a value for each column.
-use Rattle.std.specs.Prelude.{ℕ, suc, ◌+◌, ◌^◌, nat_lt, pos, Bool, if◌then◌else◌, List, [], ◌∷◌, map, Option, Some, None}
+use Rattle.std.specs.Prelude.{[], ◌+◌, ◌^◌, ◌∷◌, Bool, if◌then◌else◌, List, map, nat_lt, None, Option, pos, Some, suc, ℕ}
 use Rattle.std.specs.List.{concat}
 use Rattle.bsp_store_base.specs.Sqlite.{Int, Row, Text, Value, or_null}
 use Rattle.bsp_rows.specs.Decimal.{fixed_digits}

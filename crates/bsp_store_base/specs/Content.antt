@@ -1,7 +1,6 @@
 -- What the tables of a book's store keep, table by table.
-use Rattle.std.specs.Prelude.{ℕ, List, [], ◌∷◌, map, length, Option, Some, refl}
-use Rattle.std.specs.FinMap.{FinMap, entries}
-use Rattle.std.specs.Ordering.{nat_cmp}
+use Rattle.std.specs.Prelude.{[], ◌∷◌, length, List, map, Option, refl, Some, ℕ}
+use Rattle.bsp_store_base.specs.Std.{entries, FinMap, nat_cmp}
 use Rattle.bsp_store_base.specs.Entries.{AirlineEntry, CommissionTax, Item, MemoFields, Period, Rate, ReportedDocument, Rows, Tally, Terms}
 use Rattle.bsp_rows.specs.Rows.{item_cmp, memo_cmp, range_cmp}
 use Rattle.bsp_rows.specs.Tallies.{tally_cmp}

@@ -1,7 +1,6 @@
 -- The values that the program's types have, entry by entry. A content of other values is no book's.
-use Rattle.std.specs.Prelude.{◌≡◌, ℕ, ◌<◌, ◌/◌, ◌%◌, ◌^◌, true, List, length, IfSome, IsTrue, Some}
-use Rattle.std.specs.FinMap.{entries}
-use Rattle.std.specs.List.{AllByRecursion}
+use Rattle.std.specs.Prelude.{◌%◌, ◌/◌, ◌<◌, ◌^◌, ◌≡◌, IfSome, IsTrue, length, List, Some, true, ℕ}
+use Rattle.bsp_store_base.specs.Std.{AllByRecursion, entries}
 use Rattle.bsp_rows.specs.CivilDay.{is_day}
 use Rattle.bsp_rows.specs.Codes.{check_digit_of}
 use Rattle.bsp_rows.specs.Tokens.{is_token}

@@ -1,5 +1,5 @@
 -- What the tables of a book keep of its content.
-use Rattle.std.specs.Prelude.{◌≡◌, ℕ, ◌==◌, true, false, not, List, map, IsPermutation, IsTrue, MatchBool, ◌⊎◌}
+use Rattle.std.specs.Prelude.{◌==◌, ◌≡◌, ◌⊎◌, false, IsPermutation, IsTrue, List, map, MatchBool, not, true, ℕ}
 use Rattle.std.specs.List.{AllByRecursion, list_all, range_with_len}
 use Rattle.bsp_store_base.specs.Sqlite.{Database, Ghosts, HasCleanDisk, Held, IsDatabase, IsTable, Row, Schema, Trees, column, is_int, rowid, state}
 

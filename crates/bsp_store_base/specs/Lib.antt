@@ -1,3 +1,4 @@
+pub mod Std
 pub mod Entries
 pub mod Sqlite
 pub mod Kept
@@ -16,3 +17,4 @@ pub mod Schema
 pub mod MapTables
 pub mod Order
 pub mod Made
+pub mod Base

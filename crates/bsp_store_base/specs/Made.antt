@@ -1,5 +1,5 @@
 -- What is in a store whose tables were made.
-use Rattle.std.specs.Prelude.{◌≡◌, []}
+use Rattle.std.specs.Prelude.{[], ◌≡◌}
 use Rattle.std.specs.List.{AllByRecursion}
 use Rattle.bsp_store_base.specs.Sqlite.{Database, Schema, Table}
 

@@ -1,11 +1,7 @@
 -- A table whose rows are the entries of a map of the content, found by its first columns: what DELETE, INSERT and UPDATE by a
 -- key are there, and SELECT for all rows.
-use Rattle.std.specs.Prelude.{◌≡◌, ℕ, ◌+◌, ◌-◌, ◌/◌, List, [], ◌∷◌, ◌++◌, map, length, Bool, true, false, is_some, Option, Some, None, Result, slice_get, IsPermutation}
-use Rattle.std.specs.declared.cmp.Ordering.{Ordering}
-use Rattle.std.specs.List.{list_all, range_with_len}
-use Rattle.std.specs.Ordering.{eq_by_cmp}
-use Rattle.std.specs.Cmp.{IsTotalOrder}
-use Rattle.std.specs.FinMap.{FinMap, IsAntisymmetric, entries, get, insert, remove}
+use Rattle.std.specs.Prelude.{[], ◌++◌, ◌+◌, ◌-◌, ◌/◌, ◌∷◌, ◌≡◌, Bool, false, is_some, IsPermutation, length, List, map, None, Option, Result, slice_get, Some, true, ℕ}
+use Rattle.bsp_store_base.specs.Std.{entries, FinMap, get, insert, IsAntisymmetric, remove, eq_by_cmp, IsTotalOrder, list_all, range_with_len, Ordering}
 use Rattle.bsp_store_base.specs.Sqlite.{Binary, Column, Command, CommitsBy, Compare, Delete, Eq, Error, Executes, Ghosts, HasCleanDisk, Held, Insert, IsPlain, Key, Null, Row, Select, Survives, Table, Term, Trees, Update, Value, Values, ascending, cast_all, col, eval_all, holds, lit, op2, overlay, rowid, stamped, state, understood, value_rows}
 use Rattle.bsp_store_base.specs.declared.keyed_table.Statements.{Statements}
 use Rattle.bsp_store_base.specs.Schema.{our_schema}

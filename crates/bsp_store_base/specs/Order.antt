@@ -1,5 +1,5 @@
 -- The order of the rows of the tables.
-use Rattle.std.specs.Prelude.{ℕ, List, map, IsTrue}
+use Rattle.std.specs.Prelude.{IsTrue, List, map, ℕ}
 use Rattle.std.specs.List.{AllByRecursion}
 use Rattle.bsp_store_base.specs.Sqlite.{IsTable, Trees, is_int, rowid}
 use Rattle.bsp_store_base.specs.Schema.{our_tables}

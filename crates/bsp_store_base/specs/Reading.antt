@@ -1,5 +1,5 @@
 -- What a column of a row reads as, whatever another program wrote there.
-use Rattle.std.specs.Prelude.{◌≡◌, ◌≢◌, ℕ, ℤ, pos, nat_lt, Bool, true, false, IsTrue, if◌then◌else◌, List, Option, Some, None, MatchOption, option_map, option_and_then}
+use Rattle.std.specs.Prelude.{◌≡◌, ◌≢◌, Bool, false, if◌then◌else◌, IsTrue, List, MatchOption, nat_lt, None, Option, option_and_then, option_map, pos, Some, true, ℕ, ℤ}
 use Rattle.std.specs.Result.{result_ok}
 use Rattle.bsp_store_base.specs.Sqlite.{Int, Null, Text, Value}
 use Rattle.bsp_store_base.specs.Entries.{CivilDay}

@@ -1,5 +1,5 @@
 -- The tables of the book's store.
-use Rattle.std.specs.Prelude.{◌≡◌, ◌⊎◌, ℕ, ◌+◌, ◌==◌, Bool, true, false, if◌then◌else◌, List, [], ◌∷◌, ◌++◌, length, map, None, codes}
+use Rattle.std.specs.Prelude.{[], ◌++◌, ◌+◌, ◌==◌, ◌∷◌, ◌≡◌, ◌⊎◌, Bool, codes, false, if◌then◌else◌, length, List, map, None, true, ℕ}
 use Rattle.std.specs.Borrow.{Bor}
 use Rattle.bsp_store_base.specs.Sqlite.{Binary, Column, Index, Integer, Null, Schema, Table, plain}
 use Rattle.sqlite_schema.specs.declared.schema.Action.TheVariants.{NoAction}

@@ -1,9 +1,7 @@
 -- The second related documents of items, by the keys of their tickets.
-use Rattle.std.specs.Prelude.{Bool, true, false, if◌then◌else◌, Option, Some, None, option_and_then, option_map}
-use Rattle.std.specs.List.{filter_map}
-use Rattle.std.specs.declared.cmp.Ordering.{Ordering}
-use Rattle.std.specs.Ordering.{nat_cmp, on, then_cmp}
-use Rattle.std.specs.FinMap.{FinMap, entries, from_sorted}
+use Rattle.std.specs.Prelude.{Bool, false, if◌then◌else◌, None, Option, option_and_then, option_map, Some, true, filter_map}
+use Rattle.std.specs.Cmp.{IsTotalOrder, nat_cmp_total, on_total, then_total}
+use Rattle.bsp_store_base.specs.Std.{entries, FinMap, from_sorted, nat_cmp, on, then_cmp, Ordering}
 use Rattle.bsp_rows.specs.GroupValues.{second_of}
 use Rattle.bsp_store_base.specs.Entries.{Item, ItemKey, ReportedDocument, TicketKey}
 use Rattle.bsp_rows.specs.Rows.{item_cmp}
@@ -12,6 +10,9 @@ use Rattle.bsp_store_base.specs.Synced.{with_value}
 -- by agent, and then by number
 abbrev pub ticket_cmp : TicketKey → TicketKey → Ordering
 ticket_cmp = then_cmp (on (λ k. k.agent) nat_cmp) (on (λ k. k.number) nat_cmp)
+
+pub ticket_total : IsTotalOrder ticket_cmp
+ticket_total = then_total (on_total (λ (k : TicketKey). k.agent) nat_cmp_total) (on_total (λ (k : TicketKey). k.number) nat_cmp_total)
 
 -- the agent and the number of an item's key
 abbrev pub ticket : ItemKey → TicketKey

@@ -1,7 +1,6 @@
 -- A map brought up to another one, key by key.
-use Rattle.std.specs.Prelude.{List, [], ◌∷◌, Option, Some, None}
-use Rattle.std.specs.declared.cmp.Ordering.{Ordering}
-use Rattle.std.specs.FinMap.{FinMap, get, insert, remove}
+use Rattle.std.specs.Prelude.{[], ◌∷◌, List, None, Option, Some}
+use Rattle.bsp_store_base.specs.Std.{FinMap, get, insert, remove, Ordering}
 
 module _ {K V : Type 0} {R : K → K → Ordering} where
   -- with this value at the key, or with none

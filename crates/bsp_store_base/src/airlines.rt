@@ -1,6 +1,6 @@
 //! An airline that is published, registered, or both, and its place in a plan.
 
-ghost use Rattle.std.specs.Prelude.{◌≡◌, ◌↔◌, ◌<◌, ◌^◌, IsTrue};
+ghost use Rattle.std.specs.Prelude.{◌<◌, ◌^◌, ◌↔◌, ◌≡◌, IsTrue};
 ghost use Rattle.std.specs.Option.{ForSome};
 ghost use Rattle.bsp_store_base.specs.Airlines.{HasStoredPlace, entry_of, place_of};
 

@@ -1,8 +1,7 @@
 //! A store is tested for anything in it, and gets the tables.
 
 ghost use Rattle.std.specs.Prelude.{◌≡◌, ◌↔◌, IsTrue, OnOk};
-ghost use Rattle.sqlite.specs.Held.{state};
-ghost use Rattle.sqlite.specs.State.{HasCleanDisk, Survives};
+ghost use Rattle.bsp_store_base.specs.Sqlite.{HasCleanDisk, state, Survives};
 ghost use Rattle.bsp_store_base.specs.Made.{HasNoRows};
 ghost use Rattle.bsp_store_base.specs.Schema.{no_schema, our_schema};
 

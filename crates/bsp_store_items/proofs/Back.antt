@@ -1,15 +1,6 @@
 -- What is read back of an item's row is the item.
-use Rattle.std.proofs.Common.{[], ◌∷◌, ◌++◌, ◌==◌, ◌≤◌, ◌*◌, ◌&&◌, not, false, ℤ, is_none, length-append, arith, ◌≡◌, ℕ, ◌<◌, ◌^◌, ◌%◌, ◌/◌, List, length, map, Bool, true, Some, None, Option, Ok, refl, sym, ap, ◌∙◌, subst}
-use Rattle.std.specs.Prelude.{IfSome, unsigned_abs, nat_lt, nat_le, slice_index, slice_index_or}
-use Rattle.std.specs.List.{concat, list_all, list_any}
-use Rattle.std.specs.Result.{result_ok}
-use Rattle.std.specs.Str.{all_ascii_digits}
-use Rattle.std.proofs.lemmas.Bool.{lt-ltb, le-leb, leb-true, eq-eqb, eqb-true, and_parts, or_parts, not-false}
-use Rattle.std.proofs.lemmas.Grind.{common_steps}
-use Rattle.std.proofs.lemmas.List.{take_at, drop_at, take_all}
-use Rattle.sqlite_value.specs.declared.value.Value.TheVariants.{Int, Text}
-use Rattle.sqlite_value.specs.Order.{Row, column}
-use Rattle.sqlite.specs.Values.{or_null}
+use Rattle.bsp_store_base.proofs.Std.{[], ◌%◌, ◌&&◌, ◌*◌, ◌++◌, ◌/◌, ◌<◌, ◌==◌, ◌^◌, ◌∙◌, ◌∷◌, ◌≡◌, ◌≤◌, all_ascii_digits, and_parts, ap, arith, Bool, common_steps, concat, drop_at, eq-eqb, eqb-true, false, IfSome, is_none, leb-true, length, length-append, List, list_all, list_any, map, nat_le, nat_lt, None, not, not-false, Ok, Option, or_parts, refl, result_ok, slice_index, slice_index_or, Some, subst, sym, take_all, take_at, true, ℕ, ℤ}
+use Rattle.bsp_store_base.proofs.Sqlite.{column, Int, or_null, Row, Text}
 use Rattle.bsp_fields.specs.CivilDay.{CivilDay}
 use Rattle.bsp_fields.specs.Codes.{agent_reading, check_digit_of, document_reading}
 use Rattle.bsp_fields.specs.Decimal.{number_of, fixed_digits}
@@ -25,27 +16,13 @@ use Rattle.bsp_ret_writer.proofs.CharacterLemmas.{length-spelling}
 use Rattle.bsp_ret_writer.proofs.TextLemmas.{amount_reads}
 use Rattle.bsp_rows.specs.RetRecordsTexts.{code_text}
 use Rattle.bsp_rows.specs.Values.{none_or}
-use Rattle.bsp_rows.specs.TransactionCode.{TransactionCode}
-use Rattle.bsp_rows.specs.TransactionCode.TheVariants.{Tktt, Rfnd, Canx}
-use Rattle.bsp_rows.specs.Amounts.{Amounts}
-use Rattle.bsp_rows.specs.CardPayment.{CardPayment}
-use Rattle.bsp_rows.specs.ReportedDocument.{ReportedDocument}
-use Rattle.bsp_rows.specs.Tax.{Tax}
+use Rattle.bsp_store_base.specs.Entries.{Amounts, Canx, CardPayment, is_wrong_place, IsRight, Item, ItemKey, ReportedDocument, Rfnd, Tax, Tktt, TransactionCode}
 use Rattle.bsp_rows.specs.Transaction.{Transaction}
 use Rattle.bsp_ret_writer.specs.GroupValues.{are_taxes, are_amounts, related_of, second_of}
 use Rattle.bsp_ret_writer.specs.Stored.{InEach, IsStored, IsStoredTax, IsStoredAmount, IsStoredAmounts, IsStoredCard, IsStoredDocument}
 use Rattle.bsp_ret_writer.specs.Writing.{tax_text}
 use Rattle.bsp_ret_writer.proofs.WrittenGroup.{facts_from}
-use Rattle.bsp_rows.specs.Item.{Item}
-use Rattle.bsp_rows.specs.Sound.{IsRight}
-use Rattle.bsp_rows.specs.Verdicts.{is_wrong_place}
-use Rattle.bsp_rows.specs.declared.keys.ItemKey.{ItemKey}
-use Rattle.bsp_store_base.specs.Columns.{code_digits, airline_text, flag, taxes_text, count, item_row}
-use Rattle.bsp_store_base.specs.Reading.{agent_in, amount_in, below, code_in, if_there}
-use Rattle.bsp_store_base.specs.declared.taxes.ItemTax.{ItemTax}
-use Rattle.bsp_store_base.specs.Taxes.{tax_with}
-use Rattle.bsp_store_base.proofs.Keys.{code_digits-fits}
-use Rattle.bsp_store_base.proofs.ReadBack.{amount_back, below_back, code_back}
+use Rattle.bsp_store_base.proofs.Base.{agent_in, airline_text, amount_back, amount_in, below, below_back, code_back, code_digits, code_digits-fits, code_in, count, flag, if_there, item_row, tax_with, taxes_text}
 use Rattle.bsp_store_items.specs.Reading.{amounts_in, card_in, document_in, flag_in, item_in, key_in, kind_in, numbered, related_in, reported_in, tax_in, taxes_in, transaction_in, wide_in}
 
 abbrev places_text : List (Option Tax) → List ℕ

@@ -1,16 +1,8 @@
 -- The rows of each table, in the order of their keys.
-use Rattle.std.proofs.Common.{◌≡◌, map, ◌∙◌, Less}
-use Rattle.std.specs.FinMap.{entries}
+use Rattle.bsp_store_base.proofs.Std.{◌∙◌, ◌≡◌, entries, Less, map}
 use Rattle.sqlite_trees.specs.Tree.{IsAscending}
-use Rattle.bsp_rows.specs.Rows.{item_cmp}
-use Rattle.bsp_rows.specs.Tallies.{tally_cmp}
-use Rattle.bsp_store_base.specs.Columns.{item_row, item_tax_row, second_row, tally_tax_row}
-use Rattle.bsp_store_base.specs.Content.{Content}
-use Rattle.bsp_store_base.specs.Forms.{IsFormed, IsItemEntry, IsSecondEntry, IsTallyKey}
-use Rattle.bsp_store_base.specs.MapTables.{by_keys}
-use Rattle.bsp_store_base.specs.Seconds.{ticket_cmp}
-use Rattle.bsp_store_base.proofs.Orders.{code_order, flag_order, three_orders, two_orders}
-use Rattle.bsp_store_base.proofs.Rising.{IsBefore, entries_rise, rows_rise}
+use Rattle.bsp_store_base.proofs.Entries.{item_cmp, tally_cmp}
+use Rattle.bsp_store_base.proofs.Base.{by_keys, code_order, Content, entries_rise, flag_order, IsBefore, IsFormed, IsItemEntry, IsSecondEntry, IsTallyKey, item_row, item_tax_row, rows_rise, second_row, tally_tax_row, three_orders, ticket_cmp, two_orders}
 use Rattle.bsp_store_items.specs.Tables.{item_taxes_map, items_map, seconds_map, tally_taxes_map}
 
 pub items_rise : (c : Content) → IsFormed c → IsAscending (IsBefore (by_keys items_map)) (map item_row (entries c.items))

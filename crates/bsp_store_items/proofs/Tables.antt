@@ -1,21 +1,8 @@
 -- What is known of the tables.
-use Rattle.std.proofs.Common.{◌≡◌, [], ◌∷◌, drop, refl, nat_cmp}
-use Rattle.std.specs.Ordering.{bool_cmp, eq_by_cmp}
-use Rattle.std.specs.List.{list_all}
-use Rattle.sqlite_value.specs.declared.value.Value.TheVariants.{Null}
-use Rattle.sqlite_value.specs.Order.{Row}
-use Rattle.sqlite_rules.specs.Cast.{cast_all}
-use Rattle.sqlite_sql.specs.Term.{holds}
-use Rattle.bsp_rows.specs.Item.{Item}
-use Rattle.bsp_rows.specs.Rows.{item_cmp}
-use Rattle.bsp_rows.specs.declared.keys.ItemKey.{ItemKey}
-use Rattle.bsp_rows.proofs.KeyOrders.{item_exact, item_total, tally_exact, tally_total}
-use Rattle.bsp_store_base.specs.Columns.{agent_text, flag, item_row, item_tax_row, number_text, second_row, tally_tax_row}
-use Rattle.bsp_store_base.specs.Schema.{item_columns, item_tax_columns, second_related_columns, tally_tax_columns}
-use Rattle.bsp_store_base.proofs.Keys.{code_is, flag_is, three_columns, two_columns}
-use Rattle.bsp_store_base.proofs.SecondLemmas.{ticket_exact, ticket_total}
-use Rattle.bsp_store_base.proofs.Values.{cast_int, cast_maybe_int, cast_maybe_text, cast_same}
-use Rattle.bsp_store_base.specs.MapTables.{IsMapTable, key_test}
+use Rattle.bsp_store_base.proofs.Std.{[], ◌∷◌, ◌≡◌, bool_cmp, drop, eq_by_cmp, list_all, nat_cmp, refl}
+use Rattle.bsp_store_base.proofs.Sqlite.{cast_all, holds, Null, Row}
+use Rattle.bsp_store_base.proofs.Entries.{Item, item_cmp, item_exact, item_total, ItemKey, tally_exact, tally_total}
+use Rattle.bsp_store_base.proofs.Base.{agent_text, cast_int, cast_maybe_int, cast_maybe_text, cast_same, code_is, flag, flag_is, IsMapTable, item_columns, item_row, item_tax_columns, item_tax_row, key_test, number_text, second_related_columns, second_row, tally_tax_columns, tally_tax_row, three_columns, ticket_exact, ticket_total, two_columns}
 use Rattle.bsp_store_items.specs.Tables.{item_key_row, item_taxes_map, items_map, seconds_map, tally_taxes_map}
 
 -- ---- items and their taxes

@@ -1,15 +1,9 @@
 -- What is read back of a row is what was written.
 use Rattle.std.proofs.Common.{◌≡◌, ◌^◌, false, Some, refl}
-use Rattle.bsp_rows.specs.Item.{Item}
-use Rattle.bsp_rows.specs.ReportedDocument.{ReportedDocument}
-use Rattle.bsp_rows.specs.Verdicts.{is_wrong_place}
-use Rattle.bsp_rows.specs.declared.keys.ItemKey.{ItemKey}
+use Rattle.bsp_store_base.proofs.Entries.{is_wrong_place, Item, ItemKey, ReportedDocument}
+use Rattle.bsp_store_base.proofs.Base.{agent_back, amount_back, below_back, code_back, IsItemEntry, IsSecondEntry, IsTaxEntry, second_row, tax_row, tax_with}
 use Rattle.bsp_store_base.specs.declared.taxes.ItemTax.{ItemTax}
 use Rattle.bsp_store_base.specs.declared.tickets.TicketKey.{TicketKey}
-use Rattle.bsp_store_base.specs.Columns.{second_row, tax_row}
-use Rattle.bsp_store_base.specs.Forms.{IsItemEntry, IsSecondEntry, IsTaxEntry}
-use Rattle.bsp_store_base.specs.Taxes.{tax_with}
-use Rattle.bsp_store_base.proofs.ReadBack.{agent_back, amount_back, below_back, code_back}
 use Rattle.bsp_store_items.proofs.Back.{flag_back, key_from, reported_back}
 use Rattle.bsp_store_items.specs.TaxReading.{item_tax_in, second_row_in}
 

@@ -1,19 +1,11 @@
 -- What is written of an item is its row.
-use Rattle.std.proofs.Common.{◌≡◌, ℕ, pos, List, [], ◌∷◌, ◌++◌, map, Option, Some, None, refl, ap}
-use Rattle.std.specs.Prelude.{option_map}
-use Rattle.std.specs.List.{concat, flat_map}
-use Rattle.sqlite_value.specs.declared.value.Value.{Value}
-use Rattle.sqlite_value.specs.declared.value.Value.TheVariants.{Int, Text}
-use Rattle.sqlite.specs.Values.{or_null}
+use Rattle.bsp_store_base.proofs.Std.{[], ◌++◌, ◌∷◌, ◌≡◌, ap, concat, flat_map, List, map, None, Option, option_map, pos, refl, Some, ℕ}
+use Rattle.bsp_store_base.proofs.Sqlite.{Int, or_null, Text, Value}
 use Rattle.bsp_fields.specs.Days.{day_number}
 use Rattle.bsp_rows.specs.RetRecordsTexts.{code_text}
-use Rattle.bsp_rows.specs.Amounts.{Amounts}
-use Rattle.bsp_rows.specs.CardPayment.{CardPayment}
-use Rattle.bsp_rows.specs.ReportedDocument.{ReportedDocument}
+use Rattle.bsp_store_base.specs.Entries.{Amounts, CardPayment, Item, ItemKey, ReportedDocument}
 use Rattle.bsp_ret_writer.specs.GroupValues.{related_of}
 use Rattle.bsp_ret_writer.specs.Writing.{tax_text}
-use Rattle.bsp_rows.specs.Item.{Item}
-use Rattle.bsp_rows.specs.declared.keys.ItemKey.{ItemKey}
 use Rattle.bsp_store_base.specs.Columns.{code_digits, item_row, taxes_text}
 use Rattle.bsp_store_items.specs.declared.row.ItemRow.{ItemRow}
 use Rattle.bsp_store_items.specs.Written.{row_is}

@@ -1,26 +1,16 @@
 -- What an item's row reads as, whatever another program wrote there.
-use Rattle.std.specs.Prelude.{ℕ, zero, suc, pos, ◌^◌, Bool, false, if◌then◌else◌, ◌==◌, List, [], ◌∷◌, codes, length, take, drop, slice_index, Option, Some, None, option_map, option_and_then}
+use Rattle.std.specs.Prelude.{[], ◌==◌, ◌^◌, ◌∷◌, Bool, codes, drop, false, if◌then◌else◌, length, List, None, Option, option_and_then, option_map, pos, slice_index, Some, suc, take, zero, ℕ, bytes_eq}
 use Rattle.std.specs.Result.{result_ok}
-use Rattle.std.specs.Str.{bytes_eq}
-use Rattle.sqlite_value.specs.declared.value.Value.{Value}
-use Rattle.sqlite_value.specs.declared.value.Value.TheVariants.{Int, Text}
-use Rattle.sqlite_value.specs.Order.{Row, column}
+use Rattle.bsp_store_base.specs.Sqlite.{column, Int, Row, Text, Value}
 use Rattle.bsp_fields.specs.CivilDay.{CivilDay}
 use Rattle.bsp_fields.specs.Codes.{check_digit_of}
 use Rattle.bsp_fields.specs.Decimal.{fixed_digits}
 use Rattle.bsp_fields.specs.Zoned.{zoned_reading}
 use Rattle.bsp_ret_writer.specs.Taxes.{code_part, amount_part}
-use Rattle.bsp_rows.specs.TransactionCode.{TransactionCode}
-use Rattle.bsp_rows.specs.TransactionCode.TheVariants.{Tktt, Rfnd, Canx}
-use Rattle.bsp_rows.specs.Amounts.{Amounts}
-use Rattle.bsp_rows.specs.CardPayment.{CardPayment}
-use Rattle.bsp_rows.specs.ReportedDocument.{ReportedDocument}
-use Rattle.bsp_rows.specs.Tax.{Tax}
+use Rattle.bsp_store_base.specs.Entries.{Amounts, Canx, CardPayment, Item, ItemKey, ReportedDocument, Rfnd, Tax, Tktt, TransactionCode}
 use Rattle.bsp_rows.specs.Transaction.{Transaction}
-use Rattle.bsp_rows.specs.declared.keys.ItemKey.{ItemKey}
-use Rattle.bsp_rows.specs.Item.{Item}
+use Rattle.bsp_store_base.specs.Base.{agent_in, amount_in, below, code_in, if_there, text_in}
 use Rattle.bsp_store_base.specs.declared.taxes.ItemTax.{ItemTax}
-use Rattle.bsp_store_base.specs.Reading.{agent_in, amount_in, below, code_in, if_there, text_in}
 
 -- ---- a column
 

@@ -1,18 +1,9 @@
 -- The tables of items, and of what items and tallies have beside their own rows, as those of maps of the content.
 use Rattle.std.proofs.Common.{[], ◌∷◌}
 use Rattle.sqlite_value.specs.Order.{Row}
-use Rattle.bsp_rows.specs.Item.{Item}
-use Rattle.bsp_rows.specs.ReportedDocument.{ReportedDocument}
-use Rattle.bsp_rows.specs.Rows.{item_cmp}
-use Rattle.bsp_rows.specs.Tallies.{tally_cmp}
-use Rattle.bsp_rows.specs.Tally.{Tally}
-use Rattle.bsp_rows.specs.declared.keys.ItemKey.{ItemKey}
-use Rattle.bsp_rows.specs.declared.keys.TallyKey.{TallyKey}
-use Rattle.bsp_store_base.specs.Columns.{agent_text, airline_text, flag, item_row, item_tax_row, number_text, period_text, second_row, tally_tax_row}
-use Rattle.bsp_store_base.specs.Schema.{item_table, item_tax_table, second_related_table, tally_tax_table}
-use Rattle.bsp_store_base.specs.Seconds.{ticket_cmp}
+use Rattle.bsp_store_base.specs.Entries.{Item, item_cmp, ItemKey, ReportedDocument, Tally, tally_cmp, TallyKey}
+use Rattle.bsp_store_base.specs.Base.{agent_text, airline_text, flag, item_row, item_table, item_tax_row, item_tax_table, MapTable, number_text, period_text, second_related_table, second_row, tally_tax_row, tally_tax_table, ticket_cmp}
 use Rattle.bsp_store_base.specs.declared.tickets.TicketKey.{TicketKey}
-use Rattle.bsp_store_base.specs.MapTables.{MapTable}
 
 -- ---- items and their taxes
 

@@ -1,11 +1,10 @@
 -- What rows of taxes and of second related documents read as, whatever another program wrote there.
 use Rattle.std.specs.Prelude.{◌^◌, Option, option_and_then, option_map}
 use Rattle.sqlite_value.specs.Order.{Row, column}
-use Rattle.bsp_rows.specs.ReportedDocument.{ReportedDocument}
-use Rattle.bsp_rows.specs.declared.keys.ItemKey.{ItemKey}
+use Rattle.bsp_store_base.specs.Entries.{ItemKey, ReportedDocument}
+use Rattle.bsp_store_base.specs.Base.{agent_in, amount_in, below, code_in}
 use Rattle.bsp_store_base.specs.declared.taxes.ItemTax.{ItemTax}
 use Rattle.bsp_store_base.specs.declared.tickets.TicketKey.{TicketKey}
-use Rattle.bsp_store_base.specs.Reading.{agent_in, amount_in, below, code_in}
 use Rattle.bsp_store_items.specs.Reading.{key_in, reported_in}
 
 -- the tax of an item, under its key

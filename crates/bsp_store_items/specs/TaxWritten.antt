@@ -1,7 +1,6 @@
 -- What is written of taxes and of second related documents, as rows of their tables.
 use Rattle.std.specs.Prelude.{[], ◌∷◌}
-use Rattle.sqlite_value.specs.declared.value.Value.TheVariants.{Int, Text}
-use Rattle.sqlite_value.specs.Order.{Row}
+use Rattle.bsp_store_base.specs.Sqlite.{Int, Row, Text}
 use Rattle.bsp_store_base.specs.Columns.{count, flag}
 use Rattle.bsp_store_items.specs.declared.item_taxes.ItemTaxRow.{ItemTaxRow}
 use Rattle.bsp_store_items.specs.declared.seconds.SecondRow.{SecondRow}

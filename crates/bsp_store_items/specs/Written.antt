@@ -1,9 +1,6 @@
 -- The values of an item's row, as they are written.
-use Rattle.std.specs.Prelude.{ℕ, List, [], ◌∷◌}
-use Rattle.std.specs.List.{flat_map}
-use Rattle.sqlite_value.specs.declared.value.Value.TheVariants.{Int, Text}
-use Rattle.sqlite_value.specs.Order.{Row}
-use Rattle.sqlite.specs.Values.{or_null}
+use Rattle.std.specs.Prelude.{[], ◌∷◌, List, ℕ, flat_map}
+use Rattle.bsp_store_base.specs.Sqlite.{Int, or_null, Row, Text}
 use Rattle.bsp_store_base.specs.Columns.{flag}
 use Rattle.bsp_store_items.specs.declared.row.ItemRow.{ItemRow}
 

@@ -1,8 +1,7 @@
 //! Reading the items back.
 
 ghost use Rattle.std.specs.Prelude.{◌≡◌, ◌≢◌, None, IsTrue};
-ghost use Rattle.sqlite_value.specs.Order.{column};
-ghost use Rattle.sqlite_value.specs.declared.value.Value.TheVariants.{Int};
+ghost use Rattle.bsp_store_base.specs.Sqlite.{column, Int};
 ghost use Rattle.bsp_fields.specs.CivilDay.{CivilDay, is_day};
 ghost use Rattle.bsp_fields.specs.Days.{day_number};
 ghost use Rattle.bsp_store_items.specs.Reading.{amounts_in, card_in, document_in, item_in, key_in, numbered, related_in, reported_in, transaction_in};

@@ -1,10 +1,8 @@
 //! An item as a row of its table, without its tax and its second related document.
 
-ghost use Rattle.std.specs.Prelude.{◌≡◌, ℕ, List, Option, map, pos, option_map};
+ghost use Rattle.std.specs.Prelude.{◌≡◌, List, map, Option, option_map, pos, ℕ};
 ghost use Rattle.std.specs.List.{flat_map};
-ghost use Rattle.sqlite_value.specs.Value.{owned};
-ghost use Rattle.sqlite_value.specs.declared.value.Value.TheVariants.{Int, Text};
-ghost use Rattle.sqlite.specs.Values.{bound, bound_value, or_null};
+ghost use Rattle.bsp_store_base.specs.Sqlite.{bound, bound_value, Int, or_null, owned, Text};
 ghost use Rattle.bsp_rows.specs.Amounts.{Amounts as Priced};
 ghost use Rattle.bsp_rows.specs.CardPayment.{CardPayment as Card};
 ghost use Rattle.bsp_rows.specs.ReportedDocument.{ReportedDocument as Reported};

@@ -1,26 +1,11 @@
 -- What is read of the rows of airlines: the published ones in the order of their places, and the tokens.
-use Rattle.std.proofs.Common.{◌≡◌, ℕ, suc, ◌+◌, ◌<◌, ◌==◌, Bool, true, false, cond, List, [], ◌∷◌, map, length, get_or, Option, Some, None, inl, inr, refl, sym, ap, ap₂, subst, ◌∙◌, arith, eq-eqb, Less, nat_cmp}
-use Rattle.std.specs.Prelude.{option_map}
-use Rattle.std.specs.BTreeMap.{BTreeMap}
-use Rattle.std.specs.Cmp.{nat_cmp_total}
-use Rattle.std.specs.FinMap.{FinMap, empty, entries, from_entries, get, nat_cmp-IsAntisymmetric}
-use Rattle.std.specs.List.{AllByRecursion, AllPairs, Contains}
-use Rattle.std.specs.List.Sorted.{IsStrictlySortedBy}
-use Rattle.std.specs.Map.{keys_of}
-use Rattle.std.specs.Option.{option_or}
-use Rattle.std.specs.Ordering.{nat_cmp}
-use Rattle.std.proofs.lemmas.Bool.{eqb-true, lt-ltb}
-use Rattle.bsp_maps.proofs.OrderLemmas.{in_order}
+use Rattle.std.proofs.Common.{◌≡◌, ℕ, suc, ◌+◌, ◌<◌, ◌==◌, Bool, true, false, cond, List, [], ◌∷◌, map, length, get_or, Option, Some, None, inl, inr, refl, sym, ap, ap₂, subst, ◌∙◌, arith, eq-eqb, Less}
+use Rattle.bsp_store_base.proofs.Std.{AllByRecursion, AllPairs, BTreeMap, Contains, empty, entries, eqb-true, FinMap, from_entries, get, IsStrictlySortedBy, keys_of, lt-ltb, nat_cmp, nat_cmp-IsAntisymmetric, nat_cmp_total, option_map, option_or}
+use Rattle.bsp_store_base.proofs.Entries.{contains_cases, contains_head, contains_none, contains_tail, entry_get, get_entry, in_order, Published, same_Some}
 use Rattle.sqlite_value.specs.Order.{Row}
-use Rattle.bsp_rows.specs.Published.{Published}
 use Rattle.bsp_rows.specs.Requests.{AreDistinct, same_airline}
-use Rattle.bsp_rows.proofs.ListLemmas.{contains_cases, contains_head, contains_none, contains_tail}
-use Rattle.bsp_rows.proofs.MapLemmas.{entry_get, get_entry, same_Some}
+use Rattle.bsp_store_base.proofs.Base.{airline_entries, airline_row, entry_of, get-airline_entries, IsAirlineEntry, place_among, place_of, placed}
 use Rattle.bsp_store_base.specs.declared.airlines.AirlineEntry.{AirlineEntry}
-use Rattle.bsp_store_base.specs.Airlines.{airline_entries, entry_of, place_among, place_of}
-use Rattle.bsp_store_base.specs.Columns.{airline_row, placed}
-use Rattle.bsp_store_base.specs.Forms.{IsAirlineEntry}
-use Rattle.bsp_store_base.proofs.AirlineLemmas.{get-airline_entries}
 use Rattle.bsp_store_load.specs.Stored.{AreReadAs, IsFormedPlan, IsListedAirline, code_token, gathered, placed_code}
 use Rattle.bsp_store_load.proofs.CloseLemmas.{of_entries}
 use Rattle.bsp_store_load.proofs.Gathering.{Gives, gathered_is}

@@ -1,24 +1,8 @@
 -- What the tables beside that of items keep of items: a tax of each, and the second documents.
-use Rattle.std.proofs.Common.{◌≡◌, ◌&&◌, Bool, true, false, cond, List, [], ◌∷◌, map, Option, Some, None, refl, sym, ap, subst, ◌∙◌}
-use Rattle.std.specs.Prelude.{T, slice_index_or, option_map}
-use Rattle.std.specs.FinMap.{FinMap, entries, entries-from_sorted, entries_sorted, find, get, get-entries, get-from_sorted}
-use Rattle.std.specs.FinMap.Entries.{below_all, is_sorted}
-use Rattle.std.specs.List.{AllByRecursion, cons_option, filter_map, list_any}
-use Rattle.std.specs.Ordering.{eq_by_cmp, is_lt}
-use Rattle.std.proofs.lemmas.Bool.{or_parts}
-use Rattle.bsp_rows.specs.GroupValues.{second_of}
-use Rattle.bsp_rows.specs.Item.{Item}
-use Rattle.bsp_rows.specs.ReportedDocument.{ReportedDocument}
-use Rattle.bsp_rows.specs.Rows.{item_cmp}
-use Rattle.bsp_rows.specs.Sound.{IsRight}
-use Rattle.bsp_rows.specs.Verdicts.{is_wrong_place}
-use Rattle.bsp_rows.specs.declared.keys.ItemKey.{ItemKey}
-use Rattle.bsp_store_base.specs.Columns.{item_tax_row, tax_row}
-use Rattle.bsp_store_base.specs.Forms.{IsItemEntry, IsSecondEntry, IsTaxEntry}
-use Rattle.bsp_store_base.specs.Seconds.{second_entry, second_pair, seconds_of, ticket}
-use Rattle.bsp_store_base.specs.Taxes.{tax_with}
+use Rattle.bsp_store_base.proofs.Std.{[], ◌&&◌, ◌∙◌, ◌∷◌, ◌≡◌, AllByRecursion, ap, below_all, Bool, cond, cons_option, entries, entries-from_sorted, entries_sorted, eq_by_cmp, false, filter_map, find, FinMap, get, get-entries, get-from_sorted, is_lt, is_sorted, List, list_any, map, None, Option, option_map, or_parts, refl, slice_index_or, Some, subst, sym, T, true}
+use Rattle.bsp_store_base.proofs.Entries.{is_wrong_place, IsRight, Item, item_cmp, ItemKey, ReportedDocument, second_of}
+use Rattle.bsp_store_base.proofs.Base.{entries-seconds_of, IsItemEntry, IsSecondEntry, IsTaxEntry, item_tax_row, second_entry, second_pair, seconds_of, tax_row, tax_with, ticket}
 use Rattle.bsp_store_base.specs.declared.tickets.TicketKey.{TicketKey}
-use Rattle.bsp_store_base.proofs.SecondLemmas.{entries-seconds_of}
 use Rattle.bsp_store_items.proofs.TaxBack.{tax_formed}
 use Rattle.bsp_store_load.specs.Beside.{IsSecond, tax_entry, taxes_of}
 

@@ -1,18 +1,9 @@
 -- The tables beside that of items, as maps of their own.
-use Rattle.std.proofs.Common.{◌≡◌, refl, sym}
-use Rattle.std.specs.Prelude.{None}
-use Rattle.std.specs.FinMap.{FinMap, get, insert}
-use Rattle.bsp_rows.specs.ReportedDocument.{ReportedDocument}
-use Rattle.bsp_rows.specs.Rows.{item_cmp}
-use Rattle.bsp_rows.specs.declared.keys.ItemKey.{ItemKey}
-use Rattle.bsp_rows.proofs.KeyOrders.{item_total}
-use Rattle.bsp_store_base.specs.Columns.{second_row, tax_row}
-use Rattle.bsp_store_base.specs.Content.{item_tax_part, second_part}
-use Rattle.bsp_store_base.specs.Forms.{IsTaxEntry}
-use Rattle.bsp_store_base.specs.Seconds.{ticket_cmp}
+use Rattle.bsp_store_base.proofs.Std.{◌≡◌, FinMap, get, insert, None, refl, sym}
+use Rattle.bsp_store_base.proofs.Entries.{item_cmp, item_total, ItemKey, ReportedDocument}
+use Rattle.bsp_store_base.proofs.Base.{IsTaxEntry, item_tax_part, second_part, second_row, tax_row, ticket_cmp, ticket_total}
 use Rattle.bsp_store_base.specs.declared.taxes.ItemTax.{ItemTax}
 use Rattle.bsp_store_base.specs.declared.tickets.TicketKey.{TicketKey}
-use Rattle.bsp_store_base.proofs.SecondLemmas.{ticket_total}
 use Rattle.bsp_store_load.specs.Beside.{IsSecond, taxes_of}
 use Rattle.bsp_store_load.proofs.BesideLemmas.{tax_rows}
 use Rattle.bsp_store_load.proofs.Loaders.{Loader}

@@ -3,8 +3,7 @@ use Rattle.std.proofs.Common.{◌≡◌, sym, subst}
 use Rattle.bsp_rows.specs.Rows.{Rows}
 use Rattle.bsp_memory_rows.specs.Tables.{IsDerived, rows_of}
 use Rattle.bsp_memory_rows.specs.declared.tables.Tables.{Tables}
-use Rattle.bsp_store_base.specs.Content.{Content, content_with}
-use Rattle.bsp_store_base.specs.Forms.{IsFormed}
+use Rattle.bsp_store_base.proofs.Base.{Content, content_with, IsFormed}
 use Rattle.bsp_store_load.specs.Contents.{IsContentOf, content_now}
 use Rattle.bsp_store_load.specs.Stored.{IsFormedPlan}
 use Rattle.bsp_store_load.proofs.TallyLemmas.{content_is, one_content}

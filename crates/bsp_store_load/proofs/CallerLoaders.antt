@@ -1,15 +1,7 @@
 -- The tables of agents and of ranges, as the maps in memory.
-use Rattle.std.proofs.Common.{◌≡◌, ℕ, List, refl, nat_cmp}
-use Rattle.std.specs.Prelude.{None}
-use Rattle.std.specs.Cmp.{nat_cmp_total}
-use Rattle.std.specs.FinMap.{get}
-use Rattle.bsp_rows.specs.Rows.{Rows, range_cmp, range_of}
-use Rattle.bsp_rows.specs.Writes.{with_agent_token, with_range}
-use Rattle.bsp_rows.specs.declared.keys.RangeKey.{RangeKey}
-use Rattle.bsp_rows.proofs.KeyOrders.{range_total}
-use Rattle.bsp_store_base.specs.Columns.{agent_row, stock_row}
-use Rattle.bsp_store_base.specs.Content.{agent_part, stock_part}
-use Rattle.bsp_store_base.specs.Forms.{IsAgentEntry, IsRangeEntry}
+use Rattle.bsp_store_base.proofs.Std.{◌≡◌, get, List, nat_cmp, nat_cmp_total, None, refl, ℕ}
+use Rattle.bsp_store_base.proofs.Entries.{range_cmp, range_of, range_total, RangeKey, Rows, with_agent_token, with_range}
+use Rattle.bsp_store_base.proofs.Base.{agent_part, agent_row, IsAgentEntry, IsRangeEntry, stock_part, stock_row}
 use Rattle.bsp_store_load.proofs.Loaders.{Loader}
 
 abbrev pub agents_loader : Loader ℕ (List ℕ) Rows nat_cmp IsAgentEntry (λ e rows. get rows.agents e.0 ≡ None)

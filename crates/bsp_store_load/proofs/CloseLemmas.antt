@@ -1,19 +1,7 @@
 -- The closed periods of a plan, closed one after another.
 use Rattle.std.proofs.Common.{◌≡◌, ℕ, true, List, [], ◌∷◌, map, refl, sym, ap, subst, ◌∙◌, nat_cmp}
-use Rattle.std.specs.Prelude.{IsOk, Some}
-use Rattle.std.specs.FinMap.{FinMap, empty, entries, get}
-use Rattle.std.specs.List.{AllByRecursion}
-use Rattle.std.specs.declared.cmp.Ordering.{Ordering}
-use Rattle.std.specs.Cmp.{IsTotalOrder}
-use Rattle.std.specs.FinMap.{IsAntisymmetric}
-use Rattle.bsp_rows.specs.History.{IsReached}
-use Rattle.bsp_rows.specs.History.Request.{Close}
-use Rattle.bsp_rows.specs.Published.{Published}
-use Rattle.bsp_rows.proofs.DemandLemmas.{for_all}
-use Rattle.bsp_rows.specs.Period.{Period}
-use Rattle.bsp_rows.specs.Rows.{Rows}
-use Rattle.bsp_rows.specs.Writes.{request_answer}
-use Rattle.bsp_rows.proofs.MapLemmas.{entry_get}
+use Rattle.bsp_store_base.specs.Std.{AllByRecursion, empty, entries, FinMap, get, IsAntisymmetric, IsOk, IsTotalOrder, Ordering, Some}
+use Rattle.bsp_store_base.proofs.Entries.{Close, entry_get, for_all, IsReached, Period, Published, request_answer, Rows}
 use Rattle.bsp_memory_rows.specs.Tables.{rows_of}
 use Rattle.bsp_memory_rows.specs.declared.tables.Tables.{Tables}
 use Rattle.bsp_store_load.specs.Loading.{MayAll, after_all}

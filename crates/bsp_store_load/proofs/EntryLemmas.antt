@@ -1,7 +1,5 @@
 -- What is left of two maps, of which one has an entry, or none, for each of the other's.
-use Rattle.std.proofs.Common.{◌≡◌, ◌↔◌, not, Bool, true, false, List, [], ◌∷◌, Option, Some, None, is_some, IsTrue, refl, sym, ap, ◌∙◌}
-use Rattle.std.specs.List.{cons_option, filter_map}
-use Rattle.std.specs.Map.Iter.{TakesFirst}
+use Rattle.bsp_store_base.proofs.Std.{[], ◌↔◌, ◌∙◌, ◌∷◌, ◌≡◌, ap, Bool, cons_option, false, filter_map, is_some, IsTrue, List, None, not, Option, refl, Some, sym, TakesFirst, true}
 
 none_of : {B : Type 0} (o : Option B) → is_some o ≡ false → o ≡ None
 none_of None is = refl

@@ -1,49 +1,19 @@
 -- Rows whose values the program's types have: their content, and what each write of the office leaves.
-use Rattle.std.proofs.Common.{◌≡◌, ◌≤◌, ◌<◌, ◌+◌, ◌^◌, ◌==◌, ℕ, Bool, true, false, cond, List, [], ◌∷◌, map, length, Option, Some, None, refl, sym, subst, ◌∙◌, arith, inl, inr, Ordering}
-use Rattle.std.specs.Prelude.{◌++◌, not, if◌then◌else◌, nat_lt, IfOk, IfSome, IsTrue, Result, Ok, Err, slice_index_or}
-use Rattle.std.specs.Option.{ForSome, option_or}
-use Rattle.std.specs.FinMap.{FinMap, entries, get, nat_cmp-IsAntisymmetric, values, IsAntisymmetric, empty, get-empty, get-insert, get-remove, insert, remove}
-use Rattle.std.specs.Cmp.{nat_cmp_total, IsTotalOrder}
-use Rattle.std.specs.List.{AllByRecursion, cons_option, filter, filter_map}
-use Rattle.std.proofs.lemmas.Bool.{and_parts, eqb-true, or_cases}
-use Rattle.bsp_rows.specs.GroupValues.{second_of}
-use Rattle.bsp_rows.specs.Item.{Item}
-use Rattle.bsp_rows.specs.MemoFields.{MemoFields}
+use Rattle.bsp_store_base.proofs.Std.{[], ◌++◌, ◌+◌, ◌<◌, ◌==◌, ◌^◌, ◌∙◌, ◌∷◌, ◌≡◌, ◌≤◌, AllByRecursion, and_parts, arith, Bool, cond, cons_option, empty, entries, eq_by_cmp, eqb-true, Err, false, filter, filter_map, FinMap, ForSome, get, get-empty, get-insert, get-remove, IfOk, IfSome, if◌then◌else◌, inl, inr, insert, IsAntisymmetric, IsTotalOrder, IsTrue, length, List, map, nat_cmp-IsAntisymmetric, nat_cmp_total, nat_lt, None, not, Ok, Option, option_or, or_cases, Ordering, refl, remove, Result, slice_index_or, Some, subst, sym, true, values, ℕ}
+use Rattle.bsp_store_base.proofs.Entries.{changed, changed_to, CivilDay, Close, ended, is_closed, is_day, Item, item_exact, item_total, ItemKey, key_of, key_tally, memo_exact, memo_key, memo_total, MemoFields, MemoKey, no_rows, outcome, plan_left, PlanFault, Published, range_exact, range_key, range_total, ReportedDocument, Rows, same_key, same_Some, second_of, SetDay, Tally, tally_exact, tally_of, tally_total, TallyKey, with_agent_token, with_airline_token, with_billing, with_end, with_item, with_memo, with_range, without_range}
 use Rattle.bsp_rows.specs.Billing.{billed_in}
-use Rattle.bsp_rows.specs.CivilDay.{CivilDay, is_day}
-use Rattle.bsp_rows.specs.History.{outcome}
-use Rattle.bsp_rows.specs.History.Request.{Close, SetDay}
 use Rattle.bsp_rows.specs.Owed.{is_period}
-use Rattle.bsp_rows.specs.PlanFault.{PlanFault}
-use Rattle.bsp_rows.specs.Published.{Published, is_closed}
 use Rattle.bsp_rows.specs.PlanFault.TheVariants.{NotEarliest, NotOver}
 use Rattle.bsp_rows.specs.Requests.{closing, has_code, is_over, next_open, on_day, with_closed}
 use Rattle.bsp_rows.specs.Range.{Range}
 use Rattle.bsp_rows.specs.PostingsTallies.{is_item_under, is_memo_under}
-use Rattle.bsp_rows.specs.ReportedDocument.{ReportedDocument}
-use Rattle.bsp_rows.specs.Rows.{Rows, key_of, memo_key, no_rows, range_key}
 use Rattle.bsp_rows.specs.Stored.{InEach, IsStoredDocument}
-use Rattle.bsp_rows.specs.Tallies.{key_tally, tally_of}
-use Rattle.bsp_rows.specs.Tally.{Tally}
-use Rattle.bsp_rows.specs.Writes.{ended, plan_left, with_agent_token, with_airline_token, with_billing, with_end, with_item, with_memo, with_range, without_range, changed, changed_to}
-use Rattle.bsp_rows.specs.declared.keys.ItemKey.{ItemKey}
-use Rattle.bsp_rows.specs.declared.keys.MemoKey.{MemoKey}
-use Rattle.bsp_rows.specs.declared.keys.TallyKey.{TallyKey}
-use Rattle.bsp_rows.proofs.KeyOrders.{item_exact, item_total, memo_exact, memo_total, range_exact, range_total, tally_exact, tally_total}
-use Rattle.bsp_rows.proofs.MapLemmas.{same_Some, same_key}
 use Rattle.bsp_memory_rows.specs.Lookups.{has_rows}
-use Rattle.bsp_store_base.specs.Airlines.{airline_entries, entry_of, place_among, place_of}
-use Rattle.bsp_store_base.specs.Columns.{placed}
-use Rattle.bsp_store_base.specs.Content.{Content, content_with}
-use Rattle.bsp_store_base.specs.Forms.{IsAgent, IsAgentEntry, IsAirline, IsAirlineEntry, IsFormed, IsItemEntry, IsMemoEntry, IsRangeEntry, IsSecondEntry, IsTallyKey}
-use Rattle.bsp_store_base.specs.Seconds.{second_entry, second_pair, ticket}
+use Rattle.bsp_store_base.proofs.Base.{airline_entries, Content, content_with, entries-seconds_of, entry_of, get-airline_entries, IsAgent, IsAgentEntry, IsAirline, IsAirlineEntry, IsFormed, IsItemEntry, IsMemoEntry, IsRangeEntry, IsSecondEntry, IsTallyKey, place_among, place_of, placed, second_entry, second_pair, ticket}
 use Rattle.bsp_store_base.specs.declared.airlines.AirlineEntry.{AirlineEntry}
-use Rattle.bsp_store_base.proofs.AirlineLemmas.{get-airline_entries}
-use Rattle.bsp_store_base.proofs.SecondLemmas.{entries-seconds_of}
 use Rattle.bsp_store_load.specs.Contents.{IsContentOf, used}
 use Rattle.bsp_store_load.specs.Formed.{AreFormed, IsFormedItem, IsFormedMemo, IsFormedPublished, IsRegisteredAirline, OnEach}
 use Rattle.bsp_store_load.proofs.CloseLemmas.{of_entries}
-use Rattle.std.specs.Ordering.{eq_by_cmp}
 
 -- ---- conditions on each entry of a map
 

@@ -1,11 +1,6 @@
 -- Pairs of keys and values that are gathered from a list into a map.
-use Rattle.std.proofs.Common.{◌≡◌, ◌⊎◌, inl, inr, Bool, true, false, cond, List, [], ◌∷◌, ◌++◌, Option, Some, None, is_some, refl, sym, ap, ◌∙◌, Ordering}
-use Rattle.std.specs.List.{Contains}
-use Rattle.std.specs.Ordering.{eq_by_cmp}
-use Rattle.std.specs.Cmp.{IsTotalOrder}
-use Rattle.std.specs.FinMap.{FinMap, IsAntisymmetric, empty, get, get-empty, get-insert, same_map}
-use Rattle.bsp_rows.proofs.ListLemmas.{contains_cases, contains_head, contains_none, contains_tail}
-use Rattle.bsp_rows.proofs.MapLemmas.{get_written, same_Some, same_key}
+use Rattle.bsp_store_base.proofs.Std.{[], ◌++◌, ◌∙◌, ◌∷◌, ◌≡◌, ◌⊎◌, ap, Bool, cond, Contains, empty, eq_by_cmp, false, FinMap, get, get-empty, get-insert, inl, inr, is_some, IsAntisymmetric, IsTotalOrder, List, None, Option, Ordering, refl, same_map, Some, sym, true}
+use Rattle.bsp_store_base.proofs.Entries.{contains_cases, contains_head, contains_none, contains_tail, get_written, same_key, same_Some}
 use Rattle.bsp_store_load.specs.Stored.{gathered, with_pair}
 
 -- an element that gives this pair

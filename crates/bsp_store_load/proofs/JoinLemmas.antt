@@ -1,27 +1,11 @@
 -- Items with what the tables beside theirs keep of them.
-use Rattle.std.proofs.Common.{◌≡◌, Bool, true, false, if◌then◌else◌, List, [], ◌∷◌, Option, Some, None, is_some, refl, sym, ap, ◌∙◌}
-use Rattle.std.specs.Prelude.{slice_index_or, option_and_then, option_map}
-use Rattle.std.specs.FinMap.{FinMap, entries, get}
-use Rattle.std.specs.List.{AllByRecursion, list_any}
-use Rattle.std.proofs.lemmas.Bool.{or_parts}
-use Rattle.bsp_rows.specs.GroupValues.{second_of}
-use Rattle.bsp_rows.specs.Item.{Item}
-use Rattle.bsp_rows.specs.ReportedDocument.{ReportedDocument}
+use Rattle.bsp_store_base.proofs.Std.{[], ◌∙◌, ◌∷◌, ◌≡◌, AllByRecursion, ap, Bool, entries, false, FinMap, get, if◌then◌else◌, is_some, List, list_any, None, Option, option_and_then, option_map, or_parts, refl, slice_index_or, Some, sym, true}
+use Rattle.bsp_store_base.proofs.Entries.{Canx, IsRight, Item, item_cmp, item_exact, item_total, ItemKey, ReportedDocument, Rfnd, Rows, second_of, Sound, Tktt, TransactionCode, unrelated}
 use Rattle.bsp_rows.specs.RulesRows.{is_canx}
-use Rattle.bsp_rows.specs.Rows.{Rows, item_cmp}
-use Rattle.bsp_rows.specs.Sound.{IsRight, Sound}
 use Rattle.bsp_rows.specs.Meanings.{ends_tickets}
-use Rattle.bsp_rows.specs.TransactionCode.{TransactionCode}
-use Rattle.bsp_rows.specs.TransactionCode.TheVariants.{Tktt, Rfnd, Canx}
-use Rattle.bsp_rows.specs.declared.keys.ItemKey.{ItemKey}
-use Rattle.bsp_rows.proofs.GroupLemmas.{unrelated}
-use Rattle.bsp_rows.proofs.KeyOrders.{item_exact, item_total}
-use Rattle.bsp_store_base.specs.Forms.{IsItemEntry}
-use Rattle.bsp_store_base.specs.Seconds.{sale_at, second_in, seconds_of, ticket, ticket_cmp}
-use Rattle.bsp_store_base.specs.Taxes.{tax_with}
+use Rattle.bsp_store_base.proofs.Base.{get-seconds_of, IsItemEntry, sale_at, second_in, seconds_of, tax_with, ticket, ticket_cmp}
 use Rattle.bsp_store_base.specs.declared.taxes.ItemTax.{ItemTax}
 use Rattle.bsp_store_base.specs.declared.tickets.TicketKey.{TicketKey}
-use Rattle.bsp_store_base.proofs.SecondLemmas.{get-seconds_of}
 use Rattle.bsp_store_load.specs.Beside.{IsJoined, IsStoredItem, second_at, taxes_of}
 use Rattle.bsp_store_load.proofs.BesideLemmas.{get-taxes_of}
 use Rattle.bsp_store_load.proofs.CloseLemmas.{of_entries}

@@ -1,21 +1,10 @@
 -- A table whose rows are put into memory as the entries of a map: what is known of it, and of a call that puts its rows.
-use Rattle.std.proofs.Common.{◌≡◌, List, [], ◌∷◌, ◌++◌, map, Option, None, refl, sym, ap, subst, ◌∙◌, Ordering, append-nil, Some, cond, Less, Greater, is_eq}
-use Rattle.std.specs.Cmp.{IsTotalOrder}
-use Rattle.std.specs.FinMap.{FinMap, empty, entries, entries_sorted, get, insert, get-empty, get-insert}
-use Rattle.std.specs.List.{AllByRecursion}
-use Rattle.std.proofs.lemmas.List.Sorted.{IsPermutation-trans}
-use Rattle.std.specs.Prelude.{IsPermutation, T}
-use Rattle.sqlite_value.specs.Order.{Row}
-use Rattle.sqlite_trees.specs.Tree.{Trees}
-use Rattle.bsp_store_base.specs.Content.{Content, form, width_of}
-use Rattle.bsp_store_base.specs.Forms.{IsFormed}
-use Rattle.bsp_store_base.specs.Kept.{KeepsRows, Part, columns_of}
+use Rattle.bsp_store_base.proofs.Std.{[], ◌++◌, ◌∙◌, ◌∷◌, ◌≡◌, AllByRecursion, ap, append-nil, below_all, cond, empty, entries, entries_sorted, FinMap, get, get-empty, get-insert, Greater, insert, is_eq, is_lt, is_sorted, IsPermutation, IsPermutation-trans, IsTotalOrder, Less, List, map, None, Option, Ordering, ordering_reverse, refl, Some, subst, sym, T}
+use Rattle.bsp_store_base.proofs.Sqlite.{Row, Trees}
+use Rattle.bsp_store_base.proofs.Base.{columns_of, Content, form, IsFormed, KeepsRows, Part, width_of}
 use Rattle.bsp_store_load.specs.Loading.{IsLoaded, LeavesRow, MayAll, after_all, and_after}
 use Rattle.bsp_store_load.proofs.PutLemmas.{inserted, inserted_all}
-use Rattle.std.specs.FinMap.Entries.{below_all, is_sorted}
-use Rattle.std.specs.Ordering.{is_lt, ordering_reverse}
-use Rattle.bsp_maps.proofs.OrderLemmas.{no_entries}
-use Rattle.bsp_maps.proofs.Orderings.{first, less, second}
+use Rattle.bsp_store_base.proofs.Entries.{first, less, no_entries, second}
 
 -- ---- the entries of a map, put into rows that have none
 

@@ -1,10 +1,7 @@
 -- Tables that have nothing have no rows.
-use Rattle.std.proofs.Common.{◌≡◌, List, [], ap, ◌∙◌, Ordering}
-use Rattle.std.specs.FinMap.{empty, from_entries}
-use Rattle.std.specs.List.{filter_map}
+use Rattle.bsp_store_base.proofs.Std.{[], ◌∙◌, ◌≡◌, ap, empty, filter_map, from_entries, List, Ordering}
 use Rattle.bsp_maps.specs.Present.{present, present_entry}
-use Rattle.bsp_maps.proofs.OrderLemmas.{no_entries}
-use Rattle.bsp_rows.specs.Rows.{no_rows}
+use Rattle.bsp_store_base.proofs.Entries.{no_entries, no_rows}
 use Rattle.bsp_memory_rows.specs.Tables.{rows_of}
 use Rattle.bsp_memory_rows.specs.declared.tables.Tables.{Tables}
 use Rattle.bsp_store_load.specs.Nothing.{HasNothing}

@@ -1,14 +1,7 @@
 -- The rows of the tables have no real numbers.
 use Rattle.std.proofs.Common.{◌≡◌, false, refl, Option, Some, None}
-use Rattle.sqlite_value.specs.declared.value.Value.{Value}
-use Rattle.sqlite_value.specs.declared.value.Value.TheVariants.{Int, Text}
-use Rattle.sqlite.specs.Values.{or_null}
-use Rattle.bsp_rows.specs.Amounts.{Amounts}
-use Rattle.bsp_rows.specs.GroupValues.{related_of}
-use Rattle.bsp_rows.specs.Item.{Item}
-use Rattle.bsp_rows.specs.declared.keys.ItemKey.{ItemKey}
-use Rattle.bsp_rows.specs.MemoFields.{MemoFields}
-use Rattle.bsp_rows.specs.declared.keys.MemoKey.{MemoKey}
+use Rattle.bsp_store_base.proofs.Sqlite.{Int, or_null, Text, Value}
+use Rattle.bsp_store_base.proofs.Entries.{Amounts, Item, ItemKey, MemoFields, MemoKey, related_of}
 use Rattle.bsp_store_base.specs.Columns.{airline_text, count, item_row, memo_row, period_text, taxes_text}
 use Rattle.bsp_store_load.specs.Loading.{has_real, is_real}
 

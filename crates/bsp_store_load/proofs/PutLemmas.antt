@@ -1,17 +1,6 @@
 -- Entries put one after another into a map that has none are the map's.
-use Rattle.std.proofs.Common.{◌≡◌, ℕ, ◌+◌, ◌<◌, ◌≤◌, Bool, true, List, [], ◌∷◌, ◌++◌, map, length, drop, get_or, refl, sym, ap, subst, ◌∙◌, arith, Ordering, Less, Greater, append_assoc, append-nil}
-use Rattle.std.specs.Cmp.{IsTotalOrder}
-use Rattle.std.specs.FinMap.{FinMap, empty, insert, entries, entries-insert, entries_sorted, same_entries_map}
-use Rattle.std.specs.Prelude.{T}
-use Rattle.std.specs.FinMap.Entries.{put, by_order, is_sorted, below_all}
-use Rattle.std.specs.Ordering.{is_lt}
-use Rattle.bsp_maps.proofs.Orderings.{first, less, second}
-use Rattle.std.specs.List.{AllByRecursion}
-use Rattle.std.specs.List.Sorted.{IsStrictlySortedBy}
-use Rattle.std.specs.Map.{keys_of}
-use Rattle.std.specs.Ordering.{ordering_reverse}
-use Rattle.std.proofs.lemmas.List.{at_drop_more, drop_all, length-map, get_or-map}
-use Rattle.bsp_maps.proofs.OrderLemmas.{no_entries}
+use Rattle.bsp_store_base.proofs.Std.{[], ◌++◌, ◌+◌, ◌<◌, ◌∙◌, ◌∷◌, ◌≡◌, ◌≤◌, AllByRecursion, ap, append-nil, append_assoc, arith, at_drop_more, below_all, Bool, by_order, drop, drop_all, empty, entries, entries-insert, entries_sorted, FinMap, get_or, get_or-map, Greater, insert, is_lt, is_sorted, IsStrictlySortedBy, IsTotalOrder, keys_of, length, length-map, Less, List, map, Ordering, ordering_reverse, put, refl, same_entries_map, subst, sym, T, true, ℕ}
+use Rattle.bsp_store_base.proofs.Entries.{first, less, no_entries, second}
 use Rattle.bsp_store_load.specs.Loading.{MayAll, after_all}
 
 -- ---- at the end of a map

@@ -1,7 +1,5 @@
 -- The rows that are left against the entries that are left, one after another.
-use Rattle.std.proofs.Common.{◌≡◌, ℕ, ◌+◌, ◌<◌, ◌≤◌, Bool, true, false, cond, List, [], ◌∷◌, map, length, drop, get_or, ◌==◌, IsTrue, sym, ap, subst, ◌∙◌, arith}
-use Rattle.std.specs.List.{AllByRecursion, filter}
-use Rattle.std.proofs.lemmas.List.{at_drop_more, drop_all}
+use Rattle.bsp_store_base.proofs.Std.{[], ◌+◌, ◌<◌, ◌==◌, ◌∙◌, ◌∷◌, ◌≡◌, ◌≤◌, AllByRecursion, ap, arith, at_drop_more, Bool, cond, drop, drop_all, false, filter, get_or, IsTrue, length, List, map, subst, sym, true, ℕ}
 use Rattle.bsp_maps.proofs.OrderLemmas.{no_length}
 use Rattle.bsp_store_base.specs.Columns.{placed}
 

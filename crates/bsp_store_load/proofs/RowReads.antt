@@ -1,9 +1,7 @@
 -- A row that reads as an entry, and what is found at the entry's key.
-use Rattle.std.proofs.Common.{◌≡◌, Bool, true, false, List, Option, Some, None, is_some, IsTrue, refl, sym, ap, ◌∙◌}
-use Rattle.std.proofs.lemmas.Bool.{both_ways}
+use Rattle.bsp_store_base.proofs.Std.{◌∙◌, ◌≡◌, ap, Bool, both_ways, false, is_some, IsTrue, List, None, Option, refl, Some, sym, true}
 use Rattle.sqlite_value.specs.declared.value.ValueRef.{ValueRef}
-use Rattle.sqlite_value.specs.Order.{Row}
-use Rattle.sqlite.specs.Values.{bound}
+use Rattle.bsp_store_base.proofs.Sqlite.{bound, Row}
 use Rattle.bsp_rows.proofs.MapLemmas.{same_Some}
 use Rattle.bsp_store_load.specs.Loading.{has_real}
 

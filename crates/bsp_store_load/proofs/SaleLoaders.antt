@@ -1,20 +1,7 @@
 -- The tables of items and memos, as the maps in memory.
-use Rattle.std.proofs.Common.{◌≡◌, true, refl, ap}
-use Rattle.std.specs.Prelude.{None}
-use Rattle.std.specs.FinMap.{FinMap, get, insert}
-use Rattle.bsp_rows.specs.Item.{Item}
-use Rattle.bsp_rows.specs.Memos.{is_memo}
-use Rattle.bsp_rows.specs.MemoFields.{MemoFields}
-use Rattle.bsp_rows.specs.ReportedDocument.{ReportedDocument}
-use Rattle.bsp_rows.specs.Rows.{Rows, item_cmp, key_of, memo_cmp, memo_key}
-use Rattle.bsp_rows.specs.Writes.{with_item, with_memo}
-use Rattle.bsp_rows.specs.declared.keys.ItemKey.{ItemKey}
-use Rattle.bsp_rows.specs.declared.keys.MemoKey.{MemoKey}
-use Rattle.bsp_rows.proofs.KeyOrders.{item_total, memo_total}
-use Rattle.bsp_store_base.specs.Columns.{item_row, memo_row}
-use Rattle.bsp_store_base.specs.Content.{item_part, memo_part}
-use Rattle.bsp_store_base.specs.Forms.{IsMemoEntry}
-use Rattle.bsp_store_base.specs.Seconds.{ticket_cmp}
+use Rattle.bsp_store_base.proofs.Std.{◌≡◌, ap, FinMap, get, insert, None, refl, true}
+use Rattle.bsp_store_base.proofs.Entries.{is_memo, Item, item_cmp, item_total, ItemKey, key_of, memo_cmp, memo_key, memo_total, MemoFields, MemoKey, ReportedDocument, Rows, with_item, with_memo}
+use Rattle.bsp_store_base.proofs.Base.{IsMemoEntry, item_part, item_row, memo_part, memo_row, ticket_cmp}
 use Rattle.bsp_store_base.specs.declared.taxes.ItemTax.{ItemTax}
 use Rattle.bsp_store_load.specs.Beside.{IsStoredItem}
 use Rattle.bsp_store_load.proofs.Loaders.{Loader}

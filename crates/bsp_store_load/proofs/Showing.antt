@@ -1,20 +1,8 @@
 -- The rows of a table, read one at a time and put.
-use Rattle.std.proofs.Common.{◌≡◌, inl, inr, ℕ, Bool, false, List, [], ◌∷◌, ◌++◌, Some, None, IsPermutation, refl, sym, ap, subst, ◌∙◌, append_assoc, append-nil, arith, true, map, ap₂}
-use Rattle.std.proofs.lemmas.List.Sorted.{IsPermutation-refl, IsPermutation-cons, IsPermutation-middle, IsPermutation-trans}
-use Rattle.sqlite_value.specs.Order.{Row}
-use Rattle.sqlite_trees.specs.declared.store.Store.{Ghosts}
-use Rattle.sqlite.specs.Effect.{Database}
+use Rattle.bsp_store_base.proofs.Std.{[], ◌++◌, ◌∙◌, ◌∷◌, ◌≡◌, ap, append-nil, append_assoc, ap₂, arith, Bool, false, inl, inr, IsPermutation, IsPermutation-cons, IsPermutation-middle, IsPermutation-refl, IsPermutation-trans, List, map, None, refl, Some, subst, sym, true, ℕ}
+use Rattle.bsp_store_base.proofs.Sqlite.{begun_plain, CommitsShowing, Database, Ghosts, given_begin, Held, IsPlain, IsUnchanged, never_commits, Row, state, State, Survives, survives_weaker, unchanged_then, understood}
 use Rattle.sqlite.specs.Given.{Advances, HasBegun, HasGiven}
-use Rattle.sqlite.specs.Held.{Held, state}
-use Rattle.sqlite.specs.Listing.{understood}
-use Rattle.sqlite.specs.State.{CommitsShowing, IsUnchanged, State, Survives}
-use Rattle.sqlite.proofs.Callers.{IsPlain, begun_plain, given_begin, never_commits, unchanged_then}
-use Rattle.sqlite.proofs.StateLemmas.{survives_weaker}
-use Rattle.bsp_store_base.specs.Content.{Content}
-use Rattle.bsp_store_base.specs.Kept.{Part, Spares}
-use Rattle.bsp_store_base.specs.Schema.{our_schema}
-use Rattle.bsp_store_base.specs.Shows.{AreAllOf, ShowsTable}
-use Rattle.bsp_store_base.proofs.Opening.{rest_shown, whole_shown}
+use Rattle.bsp_store_base.proofs.Base.{AreAllOf, Content, our_schema, Part, rest_shown, ShowsTable, Spares, whole_shown}
 use Rattle.bsp_store_load.specs.Loading.{IsLoaded, MayAll, after_all}
 
 -- ---- rows that are put one after another

@@ -1,14 +1,7 @@
 -- What an audit demands of each item and memo, entry by entry.
-use Rattle.std.proofs.Common.{◌≡◌, List, [], ◌∷◌, true}
-use Rattle.std.specs.FinMap.{entries}
-use Rattle.std.specs.List.{AllByRecursion}
-use Rattle.bsp_rows.specs.Memos.{is_memo}
-use Rattle.bsp_rows.specs.MemoFields.{MemoFields}
-use Rattle.bsp_rows.specs.Rows.{Rows, memo_key}
-use Rattle.bsp_rows.specs.Sound.{IsRight, Sound}
-use Rattle.bsp_rows.specs.declared.keys.MemoKey.{MemoKey}
+use Rattle.bsp_store_base.proofs.Std.{[], ◌∷◌, ◌≡◌, AllByRecursion, entries, List, true}
+use Rattle.bsp_store_base.proofs.Entries.{is_memo, IsRight, item_exact, item_total, memo_exact, memo_key, memo_total, MemoFields, MemoKey, Rows, Sound}
 use Rattle.bsp_store_base.specs.Forms.{IsMemoEntry}
-use Rattle.bsp_rows.proofs.KeyOrders.{item_exact, item_total, memo_exact, memo_total}
 use Rattle.bsp_store_load.proofs.CloseLemmas.{of_entries}
 
 pub items_right : (rows : Rows) → Sound rows → AllByRecursion (λ e. IsRight e.0 e.1) (entries rows.items)

@@ -1,27 +1,14 @@
 -- Rows have one content: the tallies to which some of them add, and nothing beside the rows.
-use Rattle.std.proofs.Common.{◌≡◌, Bool, Option, Some, None, refl, sym, ap, ◌∙◌, List, [], ◌∷◌, map}
-use Rattle.std.specs.Prelude.{unwrap_or}
-use Rattle.std.specs.FinMap.{FinMap, get, entries, entries_sorted, get-entries, get-from_entries, same_map, values}
+use Rattle.bsp_store_base.proofs.Std.{[], ◌∙◌, ◌∷◌, ◌≡◌, AllByRecursion, ap, Bool, BTreeMap, entries, entries_sorted, filter, FinMap, get, get-entries, get-from_entries, IsStrictlySortedBy, keys_of, List, map, None, Option, refl, same_map, Some, sym, unwrap_or, values}
 use Rattle.std.specs.FinMap.Entries.{find}
-use Rattle.bsp_maps.proofs.PickLemmas.{find_passing, wanted, sorted_filter}
-use Rattle.bsp_rows.specs.Tally.{Tally}
-use Rattle.bsp_rows.specs.Rows.{Rows}
-use Rattle.bsp_rows.specs.Tallies.{key_tally, tally_cmp, tally_of}
-use Rattle.bsp_rows.specs.declared.keys.TallyKey.{TallyKey}
-use Rattle.bsp_rows.proofs.KeyOrders.{tally_exact, tally_total}
+use Rattle.bsp_store_base.proofs.Entries.{content, find_passing, in_order, key_tally, Rows, sorted_filter, Tally, tally_cmp, tally_exact, tally_of, tally_total, TallyKey, wanted}
 use Rattle.bsp_memory_rows.specs.Kept.{AreAddedUp, tally_at}
 use Rattle.bsp_memory_rows.specs.Lookups.{has_rows}
 use Rattle.bsp_store_base.specs.Content.{Content, content_with}
 use Rattle.bsp_store_load.specs.Contents.{IsContentOf, used, used_at, used_tallies}
-use Rattle.std.specs.BTreeMap.{BTreeMap}
-use Rattle.std.specs.List.{AllByRecursion, filter}
-use Rattle.std.specs.List.Sorted.{IsStrictlySortedBy}
-use Rattle.std.specs.Map.{keys_of}
 use Rattle.sqlite_value.specs.Order.{Row}
-use Rattle.bsp_maps.specs.Undo.{content}
 use Rattle.bsp_maps.specs.declared.logged.Logged.{Logged}
 use Rattle.bsp_maps.proofs.ContentLemmas.{of_content}
-use Rattle.bsp_maps.proofs.OrderLemmas.{in_order}
 use Rattle.bsp_store_load.proofs.PutLemmas.{strictly}
 
 abbrev adds : TallyKey → Tally → Bool

@@ -1,24 +1,9 @@
 -- Items that are put into memory as their taxes are taken out of those that are left.
-use Rattle.std.proofs.Common.{◌≡◌, ◌↔◌, ◌∷◌, length, Bool, true, false, cond, List, [], map, Option, Some, None, Result, Ok, Err, IfOk, refl, sym, ap, ◌∙◌}
-use Rattle.std.specs.Prelude.{option_map}
-use Rattle.std.specs.Cmp.{Equal-is, tied_itself}
-use Rattle.std.specs.FinMap.{FinMap, empty, entries, find, from_entries, get, get-empty, get-from_entries, get-insert, get-remove, get_tied, insert, remove, same_map}
-use Rattle.std.specs.Option.{option_xor}
+use Rattle.bsp_store_base.proofs.Std.{[], ◌↔◌, ◌∙◌, ◌∷◌, ◌≡◌, ap, Bool, cond, empty, entries, Equal-is, Err, false, find, FinMap, from_entries, get, get-empty, get-from_entries, get-insert, get-remove, get_tied, IfOk, IfSome_then, insert, length, List, map, None, none-some, Ok, Option, option_map, option_xor, refl, remove, Result, same_map, Some, sym, tied_itself, true}
 use Rattle.std.specs.Ordering.{eq_by_cmp, is_eq}
-use Rattle.std.proofs.lemmas.Option.{IfSome_then, none-some}
-use Rattle.sqlite_value.specs.Order.{Row}
-use Rattle.sqlite_trees.specs.Tree.{Trees}
-use Rattle.bsp_maps.proofs.OrderLemmas.{no_length}
-use Rattle.bsp_rows.specs.Item.{Item}
-use Rattle.bsp_rows.specs.ReportedDocument.{ReportedDocument}
-use Rattle.bsp_rows.specs.Rows.{Rows, item_cmp, key_of}
-use Rattle.bsp_rows.specs.Writes.{with_item}
-use Rattle.bsp_rows.specs.declared.keys.ItemKey.{ItemKey}
-use Rattle.bsp_rows.proofs.KeyOrders.{item_exact, item_total}
-use Rattle.bsp_store_base.specs.Columns.{item_row}
-use Rattle.bsp_store_base.specs.Content.{item_part}
-use Rattle.bsp_store_base.specs.Seconds.{ticket_cmp}
-use Rattle.bsp_store_base.specs.Taxes.{tax_with}
+use Rattle.bsp_store_base.proofs.Sqlite.{Row, Trees}
+use Rattle.bsp_store_base.proofs.Entries.{Item, item_cmp, item_exact, item_total, ItemKey, key_of, no_length, ReportedDocument, Rows, with_item}
+use Rattle.bsp_store_base.proofs.Base.{item_part, item_row, tax_with, ticket_cmp}
 use Rattle.bsp_store_base.specs.declared.taxes.ItemTax.{ItemTax}
 use Rattle.bsp_store_load.specs.Beside.{IsAwaited, IsRelatedItem, IsStoredItem, LacksItem, Taxed, kept_tax, taxes_of}
 use Rattle.bsp_store_load.specs.Loading.{IsLoaded, LeavesRow, MayAll, after_all}

@@ -1,16 +1,9 @@
 -- An entry whose key is new adds its row to those of its table.
 use Rattle.std.proofs.Common.{◌≡◌, ℕ, List, ◌∷◌, map, None, sym, subst, IsPermutation, Ordering}
-use Rattle.std.specs.Cmp.{IsTotalOrder, nat_cmp_total}
-use Rattle.std.specs.FinMap.{FinMap, entries, get, insert}
+use Rattle.bsp_store_base.specs.Std.{entries, FinMap, get, insert, IsTotalOrder, nat_cmp_total}
 use Rattle.std.proofs.lemmas.List.Sorted.{IsPermutation-sym}
 use Rattle.sqlite_value.specs.Order.{Row}
-use Rattle.bsp_rows.specs.Item.{Item}
-use Rattle.bsp_rows.specs.MemoFields.{MemoFields}
-use Rattle.bsp_rows.specs.Rows.{Rows, key_of, memo_key, range_of}
-use Rattle.bsp_rows.specs.Writes.{with_agent_token, with_item, with_memo, with_range}
-use Rattle.bsp_rows.specs.declared.keys.ItemKey.{ItemKey}
-use Rattle.bsp_rows.specs.declared.keys.MemoKey.{MemoKey}
-use Rattle.bsp_rows.specs.declared.keys.RangeKey.{RangeKey}
+use Rattle.bsp_store_base.specs.Entries.{Item, ItemKey, key_of, memo_key, MemoFields, MemoKey, range_of, RangeKey, Rows, with_agent_token, with_item, with_memo, with_range}
 use Rattle.bsp_rows.proofs.KeyOrders.{item_total, memo_total, range_total}
 use Rattle.bsp_store_base.specs.Columns.{agent_row, item_row, memo_row, stock_row}
 use Rattle.bsp_store_base.proofs.Syncing.{rows_added}

@@ -1,18 +1,8 @@
 -- What the tables beside that of items keep of the items.
-use Rattle.std.specs.Prelude.{◌≡◌, false, Option, Some, None, option_and_then, option_map}
-use Rattle.std.specs.FinMap.{FinMap, entries, from_sorted, get}
-use Rattle.std.specs.List.{filter_map}
-use Rattle.std.specs.Option.{option_xor}
-use Rattle.bsp_rows.specs.GroupValues.{second_of}
-use Rattle.bsp_rows.specs.Item.{Item}
-use Rattle.bsp_rows.specs.ReportedDocument.{ReportedDocument}
-use Rattle.bsp_rows.specs.Rows.{HasNumberKey, Rows, item_cmp, key_of}
-use Rattle.bsp_rows.specs.Sound.{IsRight}
-use Rattle.bsp_rows.specs.Verdicts.{is_wrong_place}
-use Rattle.bsp_rows.specs.declared.keys.ItemKey.{ItemKey}
-use Rattle.bsp_store_base.specs.Forms.{IsItemEntry, IsSecondEntry}
-use Rattle.bsp_store_base.specs.Seconds.{ticket_cmp, ticket_of}
-use Rattle.bsp_store_base.specs.Taxes.{tax_with}
+use Rattle.std.specs.Prelude.{◌≡◌, false, None, Option, option_and_then, option_map, Some, filter_map}
+use Rattle.bsp_store_base.specs.Std.{entries, FinMap, from_sorted, get, option_xor}
+use Rattle.bsp_store_base.specs.Entries.{HasNumberKey, is_wrong_place, IsRight, Item, item_cmp, ItemKey, key_of, ReportedDocument, Rows, second_of}
+use Rattle.bsp_store_base.specs.Base.{IsItemEntry, IsSecondEntry, tax_with, ticket_cmp, ticket_of}
 use Rattle.bsp_store_base.specs.declared.taxes.ItemTax.{ItemTax}
 use Rattle.bsp_store_base.specs.declared.tickets.TicketKey.{TicketKey}
 

@@ -1,18 +1,13 @@
 -- The content of the tables that keep rows.
-use Rattle.std.specs.Prelude.{◌≡◌, if◌then◌else◌, Option, Some, None}
-use Rattle.std.specs.FinMap.{FinMap, get, entries, from_entries}
-use Rattle.std.specs.List.{filter}
+use Rattle.std.specs.Prelude.{◌≡◌, if◌then◌else◌, None, Option, Some, filter}
+use Rattle.std.specs.FinMap.{entries, FinMap, from_entries, get}
 use Rattle.sqlite_trees.specs.Tree.{Trees}
-use Rattle.bsp_rows.specs.Tally.{Tally}
-use Rattle.bsp_rows.specs.declared.keys.TallyKey.{TallyKey}
-use Rattle.bsp_rows.specs.Rows.{Rows}
-use Rattle.bsp_rows.specs.Tallies.{tally_cmp, tally_of}
+use Rattle.bsp_store_base.specs.Entries.{Rows, Tally, tally_cmp, tally_of, TallyKey}
 use Rattle.bsp_memory_tables.specs.TallyTables.{tally_rows, tally_rows_before}
 use Rattle.bsp_memory_rows.specs.Lookups.{has_rows}
 use Rattle.bsp_memory_rows.specs.Tables.{committed_rows, rows_of}
 use Rattle.bsp_memory_rows.specs.declared.tables.Tables.{Tables}
-use Rattle.bsp_store_base.specs.Kept.{KeepsRows}
-use Rattle.bsp_store_base.specs.Content.{Content, content_with, form}
+use Rattle.bsp_store_base.specs.Base.{Content, content_with, form, KeepsRows}
 
 -- a tally to which some row adds
 abbrev pub used : Tally → Option Tally

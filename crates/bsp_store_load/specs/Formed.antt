@@ -1,22 +1,12 @@
 -- Rows whose values are such as the program's types have.
-use Rattle.std.specs.Prelude.{◌≡◌, ◌<◌, ◌^◌, ℕ, List, Some, IfSome, IsTrue, length, true}
-use Rattle.std.specs.declared.cmp.Ordering.{Ordering}
-use Rattle.std.specs.FinMap.{FinMap, get}
-use Rattle.std.specs.List.{AllByRecursion}
-use Rattle.sqlite_trees.specs.Tree.{Trees}
-use Rattle.sqlite.specs.Effect.{IsDatabase}
-use Rattle.bsp_rows.specs.CivilDay.{is_day}
-use Rattle.bsp_rows.specs.Item.{Item}
-use Rattle.bsp_rows.specs.MemoFields.{MemoFields}
-use Rattle.bsp_rows.specs.Published.{Published}
-use Rattle.bsp_rows.specs.Rows.{Rows}
+use Rattle.std.specs.Prelude.{◌<◌, ◌^◌, ◌≡◌, IfSome, IsTrue, length, List, Some, true, ℕ}
+use Rattle.bsp_store_base.specs.Std.{AllByRecursion, FinMap, get, Ordering}
+use Rattle.bsp_store_base.specs.Sqlite.{IsDatabase, Trees}
+use Rattle.bsp_store_base.specs.Entries.{is_day, Item, ItemKey, MemoFields, MemoKey, Published, Rows}
 use Rattle.bsp_rows.specs.Tokens.{is_token}
-use Rattle.bsp_rows.specs.declared.keys.ItemKey.{ItemKey}
-use Rattle.bsp_rows.specs.declared.keys.MemoKey.{MemoKey}
 use Rattle.bsp_memory_rows.specs.Tables.{IsDerived, rows_of}
 use Rattle.bsp_memory_rows.specs.declared.tables.Tables.{Tables}
-use Rattle.bsp_store_base.specs.Forms.{AreTerms, IsAgent, IsAgentEntry, IsAirline, IsCommissionTax, IsItemEntry, IsMemoEntry, IsPeriod, IsRangeEntry, IsRate}
-use Rattle.bsp_store_base.specs.Schema.{our_schema}
+use Rattle.bsp_store_base.specs.Base.{AreTerms, IsAgent, IsAgentEntry, IsAirline, IsCommissionTax, IsItemEntry, IsMemoEntry, IsPeriod, IsRangeEntry, IsRate, our_schema}
 use Rattle.bsp_store_load.specs.Contents.{KeepsBook}
 
 -- a condition on each entry of a map

@@ -1,13 +1,8 @@
 -- Rows of a table that are put into memory one at a time, each as an entry.
-use Rattle.std.specs.Prelude.{◌≡◌, ◌++◌, Bool, true, false, List, [], ◌∷◌, map, Option, Some, None, IfSome, IsPermutation}
+use Rattle.std.specs.Prelude.{[], ◌++◌, ◌∷◌, ◌≡◌, Bool, false, IfSome, IsPermutation, List, map, None, Option, Some, true}
 use Rattle.std.specs.List.{list_any}
-use Rattle.sqlite_value.specs.declared.value.Value.{Value}
-use Rattle.sqlite_value.specs.declared.value.Value.TheVariants.{Null, Int, Real, Text, Blob}
-use Rattle.sqlite_value.specs.Order.{Row}
-use Rattle.sqlite_trees.specs.Tree.{Trees}
-use Rattle.bsp_store_base.specs.Content.{Content, width_of}
-use Rattle.bsp_store_base.specs.Kept.{Part, columns_of}
-use Rattle.bsp_store_base.specs.Shows.{AreAllOf}
+use Rattle.bsp_store_base.specs.Sqlite.{Blob, Int, Null, Real, Row, Text, Trees, Value}
+use Rattle.bsp_store_base.specs.Base.{AreAllOf, columns_of, Content, Part, width_of}
 
 abbrev pub is_real : Value → Bool
 is_real Null = false

@@ -1,19 +1,9 @@
 -- The rows of the plan's tables, and what tables in memory are as a commit leaves them.
-use Rattle.std.specs.Prelude.{◌≡◌, ◌<◌, ◌^◌, ℕ, List, [], ◌∷◌, length, map, IfSome, IsOk, IsTrue, Some, None, Option, option_map}
-use Rattle.std.specs.FinMap.{FinMap, entries, insert}
-use Rattle.std.specs.List.{AllByRecursion}
-use Rattle.std.specs.Ordering.{nat_cmp}
-use Rattle.std.specs.declared.cmp.Ordering.{Ordering}
-use Rattle.bsp_rows.specs.CivilDay.{is_day}
-use Rattle.bsp_rows.specs.History.Request.{Close}
-use Rattle.bsp_rows.specs.Period.{Period}
-use Rattle.bsp_rows.specs.Published.{Published}
-use Rattle.bsp_rows.specs.Rows.{Rows}
-use Rattle.bsp_rows.specs.Writes.{after_request, request_answer}
+use Rattle.std.specs.Prelude.{[], ◌<◌, ◌^◌, ◌∷◌, ◌≡◌, IfSome, IsOk, IsTrue, length, List, map, None, Option, option_map, Some, ℕ}
+use Rattle.bsp_store_base.specs.Std.{AllByRecursion, entries, FinMap, insert, nat_cmp, Ordering}
+use Rattle.bsp_store_base.specs.Entries.{after_request, Close, is_day, Period, Published, request_answer, Rows}
+use Rattle.bsp_store_base.specs.Base.{airline_entries, airline_row, AreTerms, commission_tax_row, entry_of, IsAirlineEntry, IsCommissionTax, IsPeriod, IsRate, meta_rows, period_row, placed, rate_row, terms_rows}
 use Rattle.bsp_store_base.specs.declared.airlines.AirlineEntry.{AirlineEntry}
-use Rattle.bsp_store_base.specs.Airlines.{airline_entries, entry_of}
-use Rattle.bsp_store_base.specs.Columns.{airline_row, commission_tax_row, meta_rows, period_row, placed, rate_row, terms_rows}
-use Rattle.bsp_store_base.specs.Forms.{AreTerms, IsAirlineEntry, IsCommissionTax, IsPeriod, IsRate}
 use Rattle.bsp_memory_rows.specs.declared.tables.Tables.{Tables}
 use Rattle.bsp_memory_rows.specs.Tables.{IsDerived, WasDerived, committed_rows, rows_of}
 use Rattle.bsp_store_load.specs.Formed.{IsRegisteredAirline, OnEach}

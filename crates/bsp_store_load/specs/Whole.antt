@@ -1,6 +1,5 @@
 -- The tables whose rows are read all at once.
-use Rattle.bsp_store_base.specs.Content.{Content, airline_part, commission_tax_part, meta_part, period_part, rate_part, tally_part, tally_tax_part, terms_part}
-use Rattle.bsp_store_base.specs.Kept.{Part}
+use Rattle.bsp_store_base.specs.Base.{airline_part, commission_tax_part, Content, meta_part, Part, period_part, rate_part, tally_part, tally_tax_part, terms_part}
 use Rattle.bsp_store_load.specs.declared.whole.WholeTable.{WholeTable}
 use Rattle.bsp_store_load.specs.declared.whole.WholeTable.TheVariants.{Meta, Terms, Airlines, Rates, Periods, CommissionTaxes, Tallies, TallyTaxes}
 

@@ -1,12 +1,11 @@
 //! The airlines of tables in memory, against the rows of a store.
 
-ghost use Rattle.std.specs.Prelude.{◌≡◌, map, IfOk, IsTrue, OnOk, true};
+ghost use Rattle.std.specs.Prelude.{◌≡◌, IfOk, IsTrue, map, OnOk, true};
 ghost use Rattle.std.specs.FinMap.{entries, from_entries, insert};
 ghost use Rattle.std.specs.List.{AllByRecursion};
 ghost use Rattle.std.specs.Ordering.{nat_cmp};
 ghost use Rattle.bsp_memory_rows.specs.Tables.{rows_of};
-ghost use Rattle.bsp_store_base.specs.Airlines.{HasStoredPlace, airline_entries, published_at, registered, with_published};
-ghost use Rattle.bsp_store_base.specs.Columns.{airline_row, placed};
+ghost use Rattle.bsp_store_base.specs.Base.{airline_entries, airline_row, HasStoredPlace, placed, published_at, registered, with_published};
 ghost use Rattle.bsp_store_load.specs.Stored.{IsListedAirline};
 
 use crate::equal::is_row;

@@ -1,8 +1,8 @@
 //! The airlines of rows: those that are published, in the order of their places, and the tokens of those that are
 //! registered.
 
-ghost use Rattle.std.specs.Prelude.{◌≡◌, ℕ, List, map, option_map, IfOk, OnOk};
-ghost use Rattle.std.specs.FinMap.{FinMap, empty, entries, from_entries};
+ghost use Rattle.std.specs.Prelude.{◌≡◌, IfOk, List, map, OnOk, option_map, ℕ};
+ghost use Rattle.std.specs.FinMap.{empty, entries, FinMap, from_entries};
 ghost use Rattle.std.specs.Ordering.{nat_cmp};
 ghost use Rattle.bsp_rows.specs.Requests.{AreDistinct, same_airline};
 ghost use Rattle.bsp_memory_rows.specs.Tables.{IsDerived, rows_of};

@@ -2,12 +2,9 @@
 
 ghost use Rattle.std.specs.Prelude.{◌≡◌, map, None};
 ghost use Rattle.std.specs.FinMap.{entries, get};
-ghost use Rattle.bsp_rows.specs.Rows.{Rows, range_of};
-ghost use Rattle.bsp_rows.specs.Writes.{with_agent_token, with_range};
+ghost use Rattle.bsp_store_base.specs.Entries.{range_of, Rows, with_agent_token, with_range};
 ghost use Rattle.bsp_memory_rows.specs.Tables.{rows_of};
-ghost use Rattle.bsp_store_base.specs.Columns.{agent_row, stock_row};
-ghost use Rattle.bsp_store_base.specs.Content.{agent_part, stock_part};
-ghost use Rattle.bsp_store_base.specs.Forms.{IsAgentEntry, IsRangeEntry};
+ghost use Rattle.bsp_store_base.specs.Base.{agent_part, agent_row, IsAgentEntry, IsRangeEntry, stock_part, stock_row};
 ghost use Rattle.bsp_store_load.specs.Adding.{agent_added, range_added};
 ghost use Rattle.bsp_store_load.specs.Formed.{AreWhole};
 

@@ -1,11 +1,9 @@
 //! Tables in memory with the plan and the tokens of airlines of a store.
 
-ghost use Rattle.std.specs.Prelude.{◌≡◌, ℕ, List, true, IfOk, IfSome, IsSomeAnd, IsTrue, OnOk};
-ghost use Rattle.std.specs.FinMap.{FinMap, empty};
+ghost use Rattle.std.specs.Prelude.{◌≡◌, IfOk, IfSome, IsSomeAnd, IsTrue, List, OnOk, true, ℕ};
+ghost use Rattle.std.specs.FinMap.{empty, FinMap};
 ghost use Rattle.std.specs.Ordering.{nat_cmp};
-ghost use Rattle.bsp_rows.specs.Published.{Published, opening};
-ghost use Rattle.bsp_rows.specs.SoundPlan.{IsSoundPlan};
-ghost use Rattle.bsp_rows.specs.Rows.{Rows, no_rows};
+ghost use Rattle.bsp_store_base.specs.Entries.{IsSoundPlan, no_rows, opening, Published, Rows};
 ghost use Rattle.bsp_memory_rows.specs.Tables.{rows_of};
 ghost use Rattle.bsp_store_load.specs.Formed.{AreWhole};
 ghost use Rattle.bsp_store_load.specs.Stored.{AreRowsOfPlan, IsFormedPlan, PutsPlan};

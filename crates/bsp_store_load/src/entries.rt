@@ -1,7 +1,7 @@
 //! A new entry put into a map.
 
-ghost use Rattle.std.specs.Prelude.{◌≡◌, false, is_some, not, IfOk, IsTrue};
-ghost use Rattle.std.specs.FinMap.{IsAntisymmetric, from_entries, get, insert};
+ghost use Rattle.std.specs.Prelude.{◌≡◌, false, IfOk, is_some, IsTrue, not};
+ghost use Rattle.std.specs.FinMap.{from_entries, get, insert, IsAntisymmetric};
 
 use std::alloc::AllocError;
 use std::collections::BTreeMap;

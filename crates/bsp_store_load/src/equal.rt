@@ -1,9 +1,7 @@
 //! Whether a row has these values.
 
 ghost use Rattle.std.specs.Prelude.{◌≡◌, ◌<◌, ◌∷◌, [], IsTrue, false, length};
-ghost use Rattle.sqlite_value.specs.Order.{column};
-ghost use Rattle.sqlite_value.specs.Value.{owned};
-ghost use Rattle.sqlite.specs.Values.{bound, bound_value};
+ghost use Rattle.bsp_store_base.specs.Sqlite.{bound, bound_value, column, owned};
 ghost use Rattle.bsp_store_load.specs.Loading.{has_real, is_real};
 
 use sqlite::Row;

@@ -1,10 +1,9 @@
 //! What the program's types say of rows in memory. No function here has an effect: each contract says what every value of
 //! the types that it takes is.
 
-ghost use Rattle.std.specs.Prelude.{◌≡◌, ◌<◌, ◌^◌, IsTrue, length};
+ghost use Rattle.std.specs.Prelude.{◌<◌, ◌^◌, ◌≡◌, IsTrue, length};
 ghost use Rattle.std.specs.List.{AllByRecursion};
-ghost use Rattle.bsp_rows.specs.CivilDay.{is_day};
-ghost use Rattle.bsp_rows.specs.Stored.{InEach, IsStored, IsStoredTax};
+ghost use Rattle.bsp_store_base.specs.Entries.{InEach, is_day, IsStored, IsStoredTax};
 ghost use Rattle.bsp_store_base.specs.Forms.{AreTerms, IsAgentEntry, IsRangeEntry, IsAirline, IsRate, IsPeriod, IsCommissionTax};
 ghost use Rattle.bsp_store_load.specs.Formed.{IsFormedItem, IsFormedMemo, IsFormedPublished, IsRegisteredAirline};
 

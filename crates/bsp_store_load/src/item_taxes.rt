@@ -16,12 +16,10 @@ pub struct StoredTaxes;
 
 impl StoredTable<ItemKey, ItemTax, BTreeMap<ItemKey, ItemTax>> for StoredTaxes {
     ghost use Rattle.std.specs.Prelude.{◌≡◌, map, None};
-    ghost use Rattle.std.specs.FinMap.{FinMap, entries, from_entries, get, insert};
+    ghost use Rattle.std.specs.FinMap.{entries, FinMap, from_entries, get, insert};
     ghost use Rattle.bsp_rows.specs.Rows.{item_cmp};
     ghost use Rattle.bsp_rows.proofs.KeyOrders.{item_total};
-    ghost use Rattle.bsp_store_base.specs.Columns.{tax_row};
-    ghost use Rattle.bsp_store_base.specs.Content.{item_tax_part};
-    ghost use Rattle.bsp_store_base.specs.Forms.{IsTaxEntry};
+    ghost use Rattle.bsp_store_base.specs.Base.{IsTaxEntry, item_tax_part, tax_row};
     ghost use Rattle.bsp_store_base.specs.declared.taxes.ItemTax.{ItemTax as TaxEntry};
     ghost use Rattle.bsp_store_load.specs.Adding.{entry_added};
 

@@ -1,18 +1,15 @@
 //! The table of items: each row, put into memory with what other tables keep of its item. The tax of an item is then taken
 //! out of those that are left, so that the taxes of items in memory take no memory twice.
 
-ghost use Rattle.std.specs.Prelude.{◌≡◌, ◌↔◌, false, IfOk, IfSome, IsTrue, OnOk, Some, map};
-ghost use Rattle.std.specs.FinMap.{from_entries, get, remove, entries};
+ghost use Rattle.std.specs.Prelude.{◌↔◌, ◌≡◌, false, IfOk, IfSome, IsTrue, map, OnOk, Some};
+ghost use Rattle.std.specs.FinMap.{entries, from_entries, get, remove};
 ghost use Rattle.bsp_rows.specs.Item.{Item as ItemEntry};
-ghost use Rattle.bsp_rows.specs.Rows.{item_cmp};
-ghost use Rattle.bsp_rows.specs.Writes.{with_item};
+ghost use Rattle.bsp_store_base.specs.Entries.{item_cmp, with_item};
 ghost use Rattle.bsp_rows.specs.declared.keys.ItemKey.{ItemKey as KeyEntry};
 ghost use Rattle.bsp_memory_rows.specs.Tables.{rows_of};
-ghost use Rattle.bsp_store_base.specs.Columns.{item_row};
-ghost use Rattle.bsp_store_base.specs.Taxes.{tax_with};
+ghost use Rattle.bsp_store_base.specs.Base.{item_part, item_row, tax_with};
 ghost use Rattle.bsp_store_load.specs.Beside.{IsAwaited, IsKeyed, IsStoredItem, second_at, IsRelatedItem, LacksItem, Taxed, kept_tax};
 ghost use Rattle.bsp_store_load.specs.Formed.{AreWhole};
-ghost use Rattle.bsp_store_base.specs.Content.{item_part};
 ghost use Rattle.bsp_store_load.specs.Adding.{taxed_added};
 
 use crate::equal::is_row;

@@ -1,6 +1,6 @@
 //! Whether rows are those of entries, in their order.
 
-ghost use Rattle.std.specs.Prelude.{◌≡◌, map, IsTrue};
+ghost use Rattle.std.specs.Prelude.{◌≡◌, IsTrue, map};
 ghost use Rattle.std.specs.BTreeMap.{IsOrdered};
 ghost use Rattle.std.specs.List.{AllByRecursion, filter};
 ghost use Rattle.bsp_store_base.specs.Columns.{placed};

@@ -1,14 +1,10 @@
 //! The rows of a table, put into memory one at a time as a query shows them.
 
 ghost use Rattle.std.specs.Prelude.{◌≡◌, false, true, IfOk, IsTrue, OnOk, ◌∷◌, List, IsPermutation};
-ghost use Rattle.sqlite.specs.Held.{state};
-ghost use Rattle.sqlite.specs.State.{HasCleanDisk};
-ghost use Rattle.bsp_store_base.specs.Schema.{our_schema};
-ghost use Rattle.bsp_store_base.specs.Kept.{Reads, Spares, Part};
+ghost use Rattle.bsp_store_base.specs.Sqlite.{HasCleanDisk, state};
+ghost use Rattle.bsp_store_base.specs.Base.{Content, our_schema, Part, Reads, ShowsTable, Spares};
 ghost use Rattle.bsp_store_load.specs.Loading.{IsLoaded};
 ghost use Rattle.sqlite_value.specs.Order.{Row as Values};
-ghost use Rattle.bsp_store_base.specs.Content.{Content};
-ghost use Rattle.bsp_store_base.specs.Shows.{ShowsTable};
 
 use bsp_memory_rows::NoRoom;
 use sqlite::{Alter, Connection, Error, ErrorCode, Row};

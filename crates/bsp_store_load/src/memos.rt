@@ -16,13 +16,9 @@ pub struct StoredMemos;
 impl StoredTable<MemoKey, Memo, Tables> for StoredMemos {
     ghost use Rattle.std.specs.Prelude.{◌≡◌, map, None, true};
     ghost use Rattle.std.specs.FinMap.{entries, get};
-    ghost use Rattle.bsp_rows.specs.Memos.{is_memo};
-    ghost use Rattle.bsp_rows.specs.Rows.{Rows, memo_key};
-    ghost use Rattle.bsp_rows.specs.Writes.{with_memo};
+    ghost use Rattle.bsp_store_base.specs.Entries.{is_memo, memo_key, Rows, with_memo};
     ghost use Rattle.bsp_memory_rows.specs.Tables.{rows_of};
-    ghost use Rattle.bsp_store_base.specs.Columns.{memo_row};
-    ghost use Rattle.bsp_store_base.specs.Content.{memo_part};
-    ghost use Rattle.bsp_store_base.specs.Forms.{IsMemoEntry};
+    ghost use Rattle.bsp_store_base.specs.Base.{IsMemoEntry, memo_part, memo_row};
     ghost use Rattle.bsp_store_load.specs.Adding.{memo_added};
     ghost use Rattle.bsp_store_load.specs.Formed.{AreWhole};
 

@@ -1,8 +1,7 @@
 //! The tables of the plan beside that of airlines: each row against the plan in memory.
 
 ghost use Rattle.std.specs.Prelude.{◌≡◌, ◌↔◌, ◌<◌, ◌^◌, ℕ, length, map, IsTrue, Some};
-ghost use Rattle.bsp_store_base.specs.Columns.{meta_rows, placed, terms_rows, rate_row, period_row, commission_tax_row};
-ghost use Rattle.bsp_store_base.specs.Forms.{IsRate, IsPeriod, IsCommissionTax};
+ghost use Rattle.bsp_store_base.specs.Base.{commission_tax_row, IsCommissionTax, IsPeriod, IsRate, meta_rows, period_row, placed, rate_row, terms_rows};
 ghost use Rattle.bsp_store_rows.specs.Reading.{IsRateRow, IsPeriodRow, IsCommissionTaxRow};
 
 use crate::equal::{is_only_row, is_row};

@@ -1,17 +1,12 @@
 //! The plan that rows say, published in tables in memory.
 
-ghost use Rattle.std.specs.Prelude.{◌≡◌, ◌∷◌, ℕ, List, map, true, IfOk, IsSomeAnd, OnOk, Some};
-ghost use Rattle.std.specs.FinMap.{FinMap, entries};
+ghost use Rattle.std.specs.Prelude.{◌∷◌, ◌≡◌, IfOk, IsSomeAnd, List, map, OnOk, Some, true, ℕ};
+ghost use Rattle.std.specs.FinMap.{entries, FinMap};
 ghost use Rattle.std.specs.Ordering.{nat_cmp};
-ghost use Rattle.bsp_rows.specs.History.{IsReached, IsTextOf};
-ghost use Rattle.bsp_rows.specs.History.Request.{Close, SetDay};
-ghost use Rattle.bsp_rows.specs.Published.{Published, opening};
-ghost use Rattle.bsp_rows.specs.SoundPlan.{IsSoundPlan};
+ghost use Rattle.bsp_store_base.specs.Entries.{Close, IsReached, IsSoundPlan, IsTextOf, opening, Published, SetDay};
 ghost use Rattle.bsp_rows.specs.Period.{Period as PeriodEntry};
 ghost use Rattle.bsp_rows.specs.Terms.{Terms as TermsEntry};
-ghost use Rattle.bsp_store_base.specs.Airlines.{airline_entries};
-ghost use Rattle.bsp_store_base.specs.Columns.{Meta, meta_rows, period_row, terms_rows};
-ghost use Rattle.bsp_store_base.specs.Forms.{AreTerms, IsMeta, IsPeriod};
+ghost use Rattle.bsp_store_base.specs.Base.{airline_entries, AreTerms, IsMeta, IsPeriod, Meta, meta_rows, period_row, terms_rows};
 ghost use Rattle.bsp_memory_rows.specs.Tables.{rows_of};
 ghost use Rattle.bsp_store_load.specs.Loading.{MayAll, after_all};
 ghost use Rattle.bsp_store_load.specs.Stored.{AreRowsOfPlan, ChangesPlan, IsFormedPlan, MayClose, closing};

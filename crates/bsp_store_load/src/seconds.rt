@@ -1,14 +1,11 @@
 //! The table of the second related documents: each row, put into a map, and the map against the items in memory.
 
-ghost use Rattle.std.specs.Prelude.{◌≡◌, ◌↔◌, is_some, map, IsTrue, None, Some};
-ghost use Rattle.std.specs.FinMap.{from_entries, FinMap, entries, get, insert};
+ghost use Rattle.std.specs.Prelude.{◌↔◌, ◌≡◌, is_some, IsTrue, map, None, Some};
+ghost use Rattle.std.specs.FinMap.{entries, FinMap, from_entries, get, insert};
 ghost use Rattle.std.specs.List.{filter_map};
 ghost use Rattle.bsp_memory_tables.specs.ItemTables.{item_rows};
-ghost use Rattle.bsp_store_base.specs.Seconds.{seconds_of, ticket_cmp, second_entry};
+ghost use Rattle.bsp_store_base.specs.Base.{second_entry, second_part, second_row, seconds_of, ticket_cmp, ticket_total};
 ghost use Rattle.bsp_rows.specs.ReportedDocument.{ReportedDocument as Document};
-ghost use Rattle.bsp_store_base.specs.Columns.{second_row};
-ghost use Rattle.bsp_store_base.specs.Content.{second_part};
-ghost use Rattle.bsp_store_base.proofs.SecondLemmas.{ticket_total};
 ghost use Rattle.bsp_store_load.specs.Adding.{entry_added};
 ghost use Rattle.bsp_store_load.specs.Beside.{IsSecond};
 

@@ -1,6 +1,6 @@
 //! The tables of tallies and of their taxes: each row against the tallies in memory.
 
-ghost use Rattle.std.specs.Prelude.{◌≡◌, ◌↔◌, map, IsTrue};
+ghost use Rattle.std.specs.Prelude.{◌↔◌, ◌≡◌, IsTrue, map};
 ghost use Rattle.std.specs.FinMap.{entries};
 ghost use Rattle.bsp_store_base.specs.Columns.{tally_row, tally_tax_row};
 ghost use Rattle.bsp_store_load.specs.Contents.{used_tallies};

@@ -1,21 +1,10 @@
 -- A text that selects commits nothing, whatever the tables are.
-use Rattle.std.proofs.Common.{◌≡◌, ℕ, List, [], Bool, true, false, None, Result, Ok, Err, refl, sym, subst}
-use Rattle.std.specs.Prelude.{if◌then◌else◌}
-use Rattle.sqlite_trees.specs.Tree.{Trees}
+use Rattle.bsp_store_base.proofs.Std.{[], ◌≡◌, Bool, Err, false, if◌then◌else◌, List, None, Ok, refl, Result, subst, sym, true, ℕ}
+use Rattle.bsp_store_base.specs.Sqlite.{Command, CommitsShowing, compiled, Compiled, CompileError, everything, first, Ghosts, Held, if_select, is_select, meaning, planned, reads_listing, returning, returning_by, Schema, state, State, Survives, Trees, understood, with_command}
 use Rattle.sqlite_syntax.specs.declared.statement.Parsed.{Parsed}
-use Rattle.sqlite_schema.specs.declared.schema.Schema.{Schema}
-use Rattle.sqlite_schema.specs.declared.command.Command.{Command}
-use Rattle.sqlite_resolve.specs.Compile.{compiled, first, meaning, planned, returning, returning_by, with_command}
 use Rattle.sqlite_resolve.specs.Lowering.{Checked, and_then}
-use Rattle.sqlite_resolve.specs.declared.compiled.Compiled.{Compiled}
-use Rattle.sqlite_resolve.specs.declared.error.CompileError.{CompileError}
 use Rattle.sqlite_resolve.specs.declared.error.CompileError.TheVariants.{NoSuchTable}
-use Rattle.sqlite_tied.specs.Compute.{everything}
-use Rattle.sqlite.specs.Listing.{if_select, is_select, reads_listing, understood}
-use Rattle.sqlite.specs.Held.{Held, state}
-use Rattle.sqlite.specs.State.{CommitsShowing, State, Survives}
 use Rattle.sqlite.proofs.StateLemmas.{survives_weaker}
-use Rattle.sqlite_trees.specs.declared.store.Store.{Ghosts}
 use Rattle.bsp_store_load.specs.Kept.{Spares}
 use Rattle.bsp_store_load.proofs.Showing.{spares_of}
 use Rattle.bsp_store_open.specs.Opening.{version_text}

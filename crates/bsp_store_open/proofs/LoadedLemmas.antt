@@ -1,24 +1,15 @@
 -- From one table to the next, as they are put into memory.
-use Rattle.std.proofs.Common.{◌≡◌, ℕ, List, Bool, true, false, Option, Some, None, is_some, refl, sym, ap, subst, subst₂, ◌∙◌, IsPermutation, map, nat_cmp}
-use Rattle.std.specs.List.{AllByRecursion}
-use Rattle.std.proofs.lemmas.Bool.{false≢true}
-use Rattle.std.proofs.lemmas.Option.{none-some}
-use Rattle.std.specs.FinMap.{FinMap, empty, entries, get}
+use Rattle.bsp_store_base.proofs.Std.{◌∙◌, ◌≡◌, AllByRecursion, ap, Bool, empty, entries, false, false≢true, FinMap, get, is_some, IsPermutation, List, map, nat_cmp, None, none-some, Option, refl, Some, subst, subst₂, sym, true, ℕ}
 use Rattle.sqlite_trees.specs.Tree.{Trees}
-use Rattle.bsp_book.specs.Rows.{Rows, item_cmp, no_rows}
-use Rattle.bsp_book.specs.Sound.{Sound}
+use Rattle.bsp_store_base.proofs.Entries.{item_cmp, no_rows, Rows, Sound}
 use Rattle.bsp_store_load.specs.MemoryRowsTables.{IsDerived, rows_of}
 use Rattle.bsp_store_load.specs.Tables.{Tables}
-use Rattle.bsp_store_load.specs.Kept.{KeepsRows, Part, columns_of}
-use Rattle.bsp_store_load.specs.Content.{Content, agent_part, airline_part, commission_tax_part, content_with, form, item_part, item_tax_part, meta_part, period_part, rate_part, second_part, stock_part, tally_part, tally_tax_part, terms_part, width_of}
+use Rattle.bsp_store_base.proofs.Base.{agent_part, airline_part, columns_of, commission_tax_part, Content, content_with, form, IsFormed, item_part, item_tax_part, KeepsRows, meta_part, Part, period_part, rate_part, second_part, second_row, seconds_of, stock_part, tally_part, tally_tax_part, tax_row, terms_part, ticket_cmp, width_of}
 use Rattle.bsp_store_load.specs.Beside.{IsJoined, IsStoredItem, kept_tax, taxes_of}
-use Rattle.bsp_store_load.specs.Columns.{second_row, tax_row}
 use Rattle.bsp_store_load.specs.Contents.{IsContentOf, content_now}
-use Rattle.bsp_store_load.specs.Forms.{IsFormed}
 use Rattle.bsp_store_load.specs.ItemTax.{ItemTax}
 use Rattle.bsp_store_load.specs.Loading.{HasRows}
 use Rattle.bsp_store_load.specs.ReportedDocument.{ReportedDocument}
-use Rattle.bsp_store_load.specs.Seconds.{seconds_of, ticket_cmp}
 use Rattle.bsp_store_load.proofs.BesideLemmas.{seconds_checked, seconds_fit, tax_rows, taxes_formed}
 use Rattle.bsp_store_load.proofs.BesideLoaders.{seconds_loader, taxes_loader}
 use Rattle.bsp_store_load.proofs.Building.{content_of, formed_plan}

@@ -1,32 +1,11 @@
 -- What a query for all rows of `meta` shows of the tables of an earlier version.
-use Rattle.std.proofs.Common.{◌≡◌, List, [], ◌∷◌, length, map, false, inl, inr, IsPermutation, Result, Ok, Err, refl, sym, ap, subst, arith, ◌∙◌, ℕ}
-use Rattle.std.specs.List.{range_with_len}
-use Rattle.std.proofs.lemmas.List.Sorted.{IsPermutation-trans}
-use Rattle.sqlite_value.specs.declared.value.Value.TheVariants.{Null}
-use Rattle.sqlite_value.specs.Order.{Row}
-use Rattle.sqlite_trees.specs.Tree.{Trees}
-use Rattle.sqlite_trees.specs.declared.store.Store.{Ghosts}
-use Rattle.sqlite_sql.specs.Query.{Query}
-use Rattle.sqlite_sql.specs.Term.{col}
-use Rattle.sqlite_resolve.specs.declared.compiled.Compiled.{Compiled}
-use Rattle.sqlite_resolve.specs.declared.error.CompileError.{CompileError}
-use Rattle.sqlite_schema.specs.declared.command.Command.TheVariants.{Select}
-use Rattle.sqlite_tied.specs.Compute.{everything}
-use Rattle.sqlite.specs.Held.{Held, state}
-use Rattle.sqlite.specs.Listing.{reads_listing, understood}
-use Rattle.sqlite.specs.State.{CommitsShowing, HasCleanDisk, Shown, State, Survives}
+use Rattle.bsp_store_base.proofs.Std.{[], ◌∙◌, ◌∷◌, ◌≡◌, ap, arith, Err, false, inl, inr, IsPermutation, IsPermutation-trans, length, List, map, Ok, range_with_len, refl, Result, subst, sym, ℕ}
+use Rattle.bsp_store_base.specs.Sqlite.{col, CommitsShowing, Compiled, CompileError, everything, Ghosts, HasCleanDisk, Held, Null, Query, reads_listing, Row, Select, Shown, state, State, Survives, Trees, understood}
 use Rattle.sqlite.proofs.Callers.{IsPlain, command_of, never_commits, one_permutation, reads_as}
 use Rattle.bsp_book.specs.Rows.{Rows}
-use Rattle.bsp_store_base.specs.Simple.{simple}
-use Rattle.bsp_store_base.proofs.Held.{unchanged_by}
-use Rattle.bsp_store_base.proofs.Opening.{table_shown}
+use Rattle.bsp_store_base.proofs.Base.{columns_of, Content, IsQuery, Meta, meta_part, meta_row, meta_rows, meta_table, our_schema, ShowsTable, simple, Spares, table_shown, unchanged_by, width_of}
 use Rattle.bsp_store_rows.proofs.MetaTable.{all_is, all_text, names}
 use Rattle.bsp_store_rows.proofs.Orders.{meta_rise}
-use Rattle.bsp_store_load.specs.Schema.{meta_table, our_schema}
-use Rattle.bsp_store_load.specs.Shows.{IsQuery, ShowsTable}
-use Rattle.bsp_store_load.specs.Kept.{Spares, columns_of}
-use Rattle.bsp_store_load.specs.Columns.{Meta, meta_row, meta_rows}
-use Rattle.bsp_store_load.specs.Content.{Content, meta_part, width_of}
 use Rattle.bsp_store_load.specs.Contents.{IsContentOf}
 use Rattle.bsp_store_open.specs.Filled.{KeepsOldRows, with_number}
 use Rattle.bsp_store_open.specs.Old.{old_number, old_schema}

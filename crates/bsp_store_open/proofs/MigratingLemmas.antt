@@ -1,26 +1,12 @@
 -- A whole migration, from its steps: the ends of the transaction, the tables that were filled and read, and the commit.
 use Rattle.std.proofs.Common.{◌≡◌, ◌∙◌, ℕ, [], codes, inl, inr, Ok, Option, Some, None, sym, ap, arith, subst, ◌∷◌, IsTrue, pos, true, refl}
-use Rattle.sqlite_trees.specs.Tree.{Trees}
-use Rattle.sqlite_trees.specs.declared.store.Store.{Ghosts}
-use Rattle.sqlite_schema.specs.declared.command.Command.{Command}
-use Rattle.sqlite_schema.specs.declared.command.Command.TheVariants.{Commit}
-use Rattle.sqlite_schema.specs.declared.command.Returning.{Returning}
-use Rattle.sqlite.specs.Clock.{timed}
-use Rattle.sqlite.specs.Does.{Does, Tally}
-use Rattle.sqlite.specs.Effect.{Database, IsDatabase}
-use Rattle.sqlite.specs.Held.{Held, state}
-use Rattle.sqlite.specs.State.{CommitsBy, Executes, HasCleanDisk, MayCommit, State, Survives, mode_of, text_of}
+use Rattle.bsp_store_base.specs.Sqlite.{column, Command, Commit, CommitsBy, Database, Does, Executes, Ghosts, HasCleanDisk, Held, Int, IsDatabase, MayCommit, mode_of, Returning, Row, state, State, Survives, Tally, text_of, timed, Trees}
 use Rattle.sqlite.proofs.Callers.{command_of}
-use Rattle.bsp_store_base.proofs.Ending.{begin_commits_nothing, begins, commits}
-use Rattle.bsp_store_base.proofs.Ends.{ends_any}
-use Rattle.bsp_store_load.specs.Kept.{Spares, KeepsRows, AreTreesOf, KeepsSound}
+use Rattle.bsp_store_base.proofs.Base.{AreTreesOf, begin_commits_nothing, begins, commits, Content, count, ends_any, form, KeepsRows, KeepsSound, our_schema, Spares}
 use Rattle.bsp_store_open.specs.Migrating.{HasBegun, HasEnded, MayEnd, IsFilledWith, KeepsNoOld, KeepsOnlyOld, HasNoOldBook, IsMigrated, IsNumbered, IsOld, KeepsOldBook, LeavesMigration}
-use Rattle.bsp_book.specs.Rows.{Rows}
-use Rattle.bsp_book.specs.Sound.{Sound}
-use Rattle.bsp_store_load.specs.Content.{Content, form}
+use Rattle.bsp_store_base.proofs.Entries.{Rows, Sound}
 use Rattle.bsp_store_load.specs.Contents.{IsContentOf, content_now}
 use Rattle.bsp_store_load.specs.MemoryRowsTables.{rows_of}
-use Rattle.bsp_store_load.specs.Schema.{our_schema}
 use Rattle.bsp_store_load.specs.Tables.{Tables}
 use Rattle.bsp_store_load.proofs.FormedContent.{formed_content}
 use Rattle.bsp_store_open.specs.Filled.{Fills, HasOldNumber, IsTied, AreInOldOrder, IsBegun, KeepsOldRows}
@@ -29,11 +15,8 @@ use Rattle.bsp_store_open.specs.Loaded.{IsAllLoaded, KeepsNone}
 use Rattle.bsp_store_open.specs.Opening.{Finds, AreOrdered, IsOfOther, KeepsAtRest, Reports, is_known}
 use Rattle.bsp_store_open.proofs.OpeningLemmas.{keeps_all}
 use Rattle.std.proofs.lemmas.Bool.{true≢false}
-use Rattle.sqlite_value.specs.Order.{Row, column}
-use Rattle.sqlite_value.specs.declared.value.Value.TheVariants.{Int}
 use Rattle.bsp_book.specs.Listed.{Holds as ListHolds}
 use Rattle.bsp_book.specs.declared.list.ListBook.{ListBook}
-use Rattle.bsp_store_load.specs.Columns.{count}
 use Rattle.bsp_store_load.specs.Formed.{AreFormed, IsBook}
 use Rattle.bsp_store_load.proofs.Held.{trees_of}
 use Rattle.bsp_store_open.specs.Old.{old_number}

@@ -1,21 +1,11 @@
 -- Trees of a book of an earlier version: which version it is, and which rows it has.
-use Rattle.std.proofs.Common.{◌≡◌, ◌∙◌, ℕ, List, [], ◌∷◌, length, map, IsPermutation, refl, sym, ap, subst}
-use Rattle.std.proofs.lemmas.List.Sorted.{IsPermutation-refl}
-use Rattle.sqlite_value.specs.Order.{Row, column}
-use Rattle.sqlite_trees.specs.Objects.{catalog_tree}
-use Rattle.sqlite_trees.specs.Tree.{Trees}
-use Rattle.sqlite_trees.specs.declared.store.Store.{Ghosts}
-use Rattle.sqlite_catalog.specs.Listing.{Lists}
+use Rattle.bsp_store_base.proofs.Std.{[], ◌∙◌, ◌∷◌, ◌≡◌, ap, IsPermutation, IsPermutation-refl, length, List, map, refl, subst, sym, ℕ}
+use Rattle.bsp_store_base.proofs.Sqlite.{catalog_tree, column, Ghosts, HasCleanDisk, Held, Lists, one_permutation, Row, state, Trees}
 use Rattle.sqlite_catalog.proofs.ReadLemmas.{lists_once}
-use Rattle.sqlite.specs.Held.{Held, state}
-use Rattle.sqlite.specs.State.{HasCleanDisk}
-use Rattle.sqlite.proofs.Callers.{one_permutation}
-use Rattle.bsp_book.specs.Rows.{Rows}
-use Rattle.bsp_book.specs.Sound.{Sound}
+use Rattle.bsp_store_base.proofs.Entries.{Rows, Sound}
 use Rattle.bsp_store_load.specs.Columns.{Meta, count, meta_row, meta_rows, version as our_version}
-use Rattle.bsp_store_load.specs.Content.{Content, meta_part, width_of}
+use Rattle.bsp_store_base.proofs.Base.{columns_of, Content, meta_part, width_of}
 use Rattle.bsp_store_load.specs.Contents.{KeepsBook}
-use Rattle.bsp_store_load.specs.Kept.{columns_of}
 use Rattle.bsp_store_load.proofs.FormedContent.{formed_content}
 use Rattle.bsp_store_open.specs.Old.{old_number, old_schema}
 use Rattle.bsp_store_open.specs.declared.old_versions.OldVersion.{OldVersion}

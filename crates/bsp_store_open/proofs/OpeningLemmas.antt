@@ -1,33 +1,16 @@
 -- From the rows that an opening read to what the tables keep.
-use Rattle.std.proofs.Common.{◌≡◌, ◌⊎◌, ℕ, List, [], ◌∷◌, length, map, None, Result, Ok, Err, IfOk, OnOk, IsTrue, IsPermutation, inl, inr, refl, sym, ap, subst, ◌∙◌, arith}
-use Rattle.std.specs.Prelude.{pos, IfErr, IsErrAnd, MatchResult, true}
-use Rattle.std.proofs.lemmas.Bool.{false≢true, true≢false}
-use Rattle.std.specs.List.{AllByRecursion}
-use Rattle.std.proofs.lemmas.List.Sorted.{IsPermutation-sym}
-use Rattle.sqlite_value.specs.Order.{Row, column}
-use Rattle.sqlite_value.specs.declared.value.Value.TheVariants.{Int}
-use Rattle.sqlite_trees.specs.Tree.{Trees, IsTable, rowid}
-use Rattle.sqlite_trees.specs.View.{IsClean, IsQuiet, is_int}
-use Rattle.sqlite_trees.specs.declared.store.Store.{Ghosts}
-use Rattle.sqlite.specs.Effect.{Database}
-use Rattle.sqlite.specs.Held.{Held, state}
-use Rattle.sqlite.specs.State.{HasCleanDisk}
+use Rattle.bsp_store_base.proofs.Std.{[], ◌∙◌, ◌∷◌, ◌≡◌, ◌⊎◌, AllByRecursion, ap, arith, Err, false≢true, IfErr, IfOk, inl, inr, IsErrAnd, IsPermutation, IsPermutation-sym, IsTrue, length, List, map, MatchResult, None, Ok, OnOk, pos, refl, Result, subst, sym, true, true≢false, ℕ}
+use Rattle.bsp_store_base.proofs.Sqlite.{column, Database, Ghosts, HasCleanDisk, Held, Int, is_int, IsClean, IsQuiet, IsTable, Row, rowid, state, Trees}
 use Rattle.sqlite.specs.declared.error.Error.{Error as StoreError}
-use Rattle.bsp_book.specs.Rows.{Rows}
-use Rattle.bsp_book.specs.Sound.{Sound}
+use Rattle.bsp_store_base.proofs.Entries.{Rows, Sound}
 use Rattle.bsp_store_load.specs.MemoryRowsTables.{rows_of}
 use Rattle.bsp_store_load.specs.Tables.{Tables}
 use Rattle.bsp_book.specs.Listed.{Holds as ListHolds}
 use Rattle.bsp_book.specs.declared.list.ListBook.{ListBook}
-use Rattle.bsp_store_base.specs.Order.{AreInOrder, IsInOrder}
-use Rattle.bsp_store_load.specs.Schema.{our_schema}
-use Rattle.bsp_store_load.specs.Kept.{AreTreesOf, Keeps, KeepsRows, KeepsSound, KeepsTable, Part, Spares, columns_of}
-use Rattle.bsp_store_load.specs.Columns.{Meta, count, meta_row, meta_rows, version}
-use Rattle.bsp_store_load.specs.Content.{Content, form, meta_part, width_of}
+use Rattle.bsp_store_base.proofs.Base.{AreAllOf, AreInOrder, AreTreesOf, columns_of, Content, count, form, IsInOrder, Keeps, KeepsRows, KeepsSound, KeepsTable, Meta, meta_part, meta_row, meta_rows, our_schema, Part, Spares, version, width_of}
 use Rattle.bsp_store_load.specs.Contents.{IsContentOf, content_now}
 use Rattle.bsp_store_load.specs.Formed.{AreFormed}
 use Rattle.bsp_store_load.specs.Loading.{HasRows}
-use Rattle.bsp_store_load.specs.Shows.{AreAllOf}
 use Rattle.bsp_store_load.specs.Stored.{AreCommitted}
 use Rattle.bsp_store_open.specs.Faults.{IsFaultOf, is_refusal}
 use Rattle.bsp_store_open.specs.declared.fault.OpenFault.{OpenFault}

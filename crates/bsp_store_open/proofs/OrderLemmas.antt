@@ -1,18 +1,9 @@
 -- The rows of each table are in the order of their rowids, whatever the schema is.
-use Rattle.std.proofs.Common.{◌≡◌, ◌≤◌, false, List, [], ◌∷◌, map, IsTrue, Result, Ok, Err, IfOk, sym, subst, ◌∙◌, arith}
-use Rattle.std.proofs.lemmas.Bool.{true_from_ne_false, both_ways}
-use Rattle.std.specs.List.{AllByRecursion}
-use Rattle.sqlite_trees.specs.declared.store.Store.{Ghosts}
+use Rattle.bsp_store_base.proofs.Std.{[], ◌∙◌, ◌∷◌, ◌≡◌, ◌≤◌, AllByRecursion, arith, both_ways, Err, false, IfOk, IsTrue, List, map, Ok, Result, subst, sym, true_from_ne_false}
+use Rattle.bsp_store_base.specs.Sqlite.{catalog_tree, Ghosts, HasCleanDisk, Held, IsFresh, IsListed, IsLive, IsSound, Opens, Schema, state, Table}
 use Rattle.sqlite_trees.specs.declared.store.Shape.TheVariants as shape
 use Rattle.sqlite_trees.specs.View.{View, doubt, IsClean, IsOrdered as IsShapedAll, IsRolledBack as IsUndone}
-use Rattle.sqlite_trees.specs.Objects.{catalog_tree, IsListed}
-use Rattle.sqlite_schema.specs.declared.schema.Schema.{Schema}
-use Rattle.sqlite_schema.specs.declared.schema.Table.{Table}
-use Rattle.sqlite_catalog.specs.Listing.{IsSound}
 use Rattle.sqlite_catalog.proofs.LayoutLemmas.{laid_out}
-use Rattle.sqlite.specs.Held.{Held, state}
-use Rattle.sqlite.specs.State.{HasCleanDisk, IsLive, Opens}
-use Rattle.sqlite.specs.Steps.{IsFresh}
 use Rattle.bsp_store_base.specs.Order.{IsInOrder}
 use Rattle.bsp_store_open.specs.Opening.{AreAllInOrder, AreOrdered, IsOrdered}
 

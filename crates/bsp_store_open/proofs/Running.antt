@@ -1,57 +1,22 @@
 -- The statements of a text: rows that are put into a table, and one statement after the other, in a transaction that stays
 -- open and commits nothing.
 use Rattle.std.proofs.Common.{◌≡◌, ◌≢◌, ℕ, List, [], ◌∷◌, ◌++◌, append-nil, map, filter, Bool, true, false, not, ◌&&◌, cond, Some, None, Ok, Option, refl, sym, ap, ap₂, ◌∙◌, subst, drop, IsPermutation, length, slice_get, true≢false, MatchBool, pos, negsuc, ◌⊎◌, inl, inr, ◌≤◌, zero, suc, take, ◌||◌, Err, Result, OnOk, IsTrue, subst₂, arith}
-use Rattle.std.specs.Prelude.{◌==◌, nat_lt}
-use Rattle.std.specs.List.{AllByRecursion, list_all, list_any}
-use Rattle.std.proofs.lemmas.Bool.{and_parts, not-true, eqb-false, cases_Bool, eqb-true}
-use Rattle.std.proofs.lemmas.List.Sorted.{IsPermutation-trans, IsPermutation-sym, IsPermutation-map, IsPermutation-refl, IsPermutation-middle, IsPermutation-append_right}
-use Rattle.sqlite_value.specs.declared.value.Value.{Value}
-use Rattle.sqlite_value.specs.declared.value.Value.TheVariants.{Null, Int}
+use Rattle.bsp_store_base.proofs.Std.{◌==◌, AllByRecursion, and_parts, cases_Bool, digits, eqb-false, eqb-true, IsPermutation-append_right, IsPermutation-map, IsPermutation-middle, IsPermutation-refl, IsPermutation-sym, IsPermutation-trans, list_all, list_any, nat_lt, not-true}
+use Rattle.bsp_store_base.specs.Sqlite.{AtPlace, Binary, cast, cast_row, col, Command, Commit, CommitsBy, count_of, CreateTable, Database, Does, doubt, end, Enforced, Error, eval_all, everything, ExecutesIn, Ghosts, Gives, HasCleanDisk, Held, Index, inner, Insert, Int, Integer, IsAnswer, IsNotRun, IsRolledBack, IsTable, IsUnchanged, KeepsCommit, lacks_sequence, lit, MakesSequence, MakesTable, mode_of, no_rows, Null, OnRows, Output, overlay, put_row, Query, Release, Row, rowid, rowids_for, Runs, RunsCommand, Schema, shows_rows, stamped, State, state, Survives, Table, table_defined_by, Tally, Term, text_of, Then, timed, Trees, understood, Update, Value, works, Writes, Written}
 use Rattle.sqlite_value.specs.declared.keys.Collation.{Collation}
-use Rattle.sqlite_value.specs.Order.{Row}
-use Rattle.sqlite_trees.specs.Tree.{Trees, IsTable, rowid, put_row}
 use Rattle.sqlite_trees.proofs.ListLemmas.{map-map, filter_all, all_of}
 use Rattle.sqlite_trees.proofs.TreeLemmas.{IsTable-put_row, all-put_row}
-use Rattle.sqlite_sql.specs.Term.{Term, col, lit, eval_all}
-use Rattle.sqlite_sql.specs.Query.{IsAnswer, Output, Query, end, inner}
-use Rattle.sqlite_sql.specs.Program.{overlay}
-use Rattle.sqlite_schema.specs.declared.schema.Schema.{Schema}
-use Rattle.sqlite_schema.specs.declared.schema.Index.{Index}
-use Rattle.sqlite_schema.specs.declared.schema.Table.{Table}
-use Rattle.sqlite_schema.specs.declared.schema.Keys.TheVariants.{Enforced}
-use Rattle.sqlite_schema.specs.declared.schema.Kind.TheVariants.{Integer}
-use Rattle.sqlite_schema.specs.declared.command.Command.{Command}
-use Rattle.sqlite_schema.specs.declared.command.Command.TheVariants.{Insert, Update, Commit, CreateTable, Release}
 use Rattle.sqlite_schema.specs.declared.command.Source.TheVariants as source
-use Rattle.sqlite_rules.specs.Action.{works}
-use Rattle.sqlite_rules.specs.Cast.{cast, cast_row}
 use Rattle.sqlite_rules.specs.Calls.{ids_of}
 use Rattle.sqlite_rules.specs.Edit.{at_least, edit_of, is_chosen, next_rowid, numbered, put_all, taken_by, with_rowid, without_all, are_fresh, have_rowids, id_in}
 use Rattle.sqlite_rules.specs.declared.error.Rowids.{Rowids}
 use Rattle.sqlite_rules.specs.declared.error.Rowids.TheVariants.{Given}
-use Rattle.sqlite.specs.Effect.{Database}
-use Rattle.sqlite.specs.Rows.{Written, stamped, rowids_for, count_of, Gives, Then}
-use Rattle.sqlite.specs.Does.{Tally, Does, AtPlace, OnRows, MakesSequence, MakesTable, lacks_sequence, no_rows}
-use Rattle.sqlite.specs.State.{State, Writes, mode_of, CommitsBy, ExecutesIn, HasCleanDisk, IsNotRun, IsRolledBack, IsUnchanged, KeepsCommit, Runs, RunsCommand, Survives, shows_rows, text_of}
 use Rattle.sqlite.proofs.Callers.{one_step, IsPlain, command_of, statement_of, through}
-use Rattle.bsp_store_base.specs.Kept.{columns_of}
+use Rattle.bsp_store_base.proofs.Base.{columns_of, commission_tax_table, item_tax_table, meta_table, our_schema, quiet, same_value, second_related_table, tally_tax_table, went}
 use Rattle.bsp_store_base.proofs.ReadingLemmas.{simple, passes, out, rows_are, put_fresh, taken_out}
-use Rattle.bsp_store_base.proofs.Writing.{same_value, went}
 use Rattle.bsp_store_open.specs.Statements.{AreMade, Keyed, stored, At, Goes, HasSeconds, HasTaxes, IsAdded, IsAt, untaxed_item, untaxed_tally, with_version}
-use Rattle.sqlite_value.specs.declared.keys.Collation.TheVariants.{Binary}
-use Rattle.sqlite_trees.specs.View.{doubt}
-use Rattle.sqlite_trees.specs.declared.store.Store.{Ghosts}
-use Rattle.sqlite_resolve.specs.Compile.{table_defined_by}
 use Rattle.sqlite_catalog.specs.Change.{KeepsRows, created, next_tree}
 use Rattle.sqlite.specs.Batch.{RunInTurn, first_len, ExecutesAll}
-use Rattle.sqlite.specs.Clock.{timed}
-use Rattle.sqlite.specs.declared.error.Error.{Error}
-use Rattle.sqlite.specs.Held.{Held, state}
-use Rattle.sqlite.specs.Listing.{understood}
-use Rattle.bsp_store_base.proofs.Ending.{quiet}
-use Rattle.std.specs.Fmt.{digits}
-use Rattle.sqlite_tied.specs.Compute.{everything}
-use Rattle.bsp_store_base.specs.Schema.{commission_tax_table, item_tax_table, meta_table, our_schema, second_related_table, tally_tax_table}
 use Rattle.bsp_store_open.specs.Old.{old_schema, old_tables}
 use Rattle.bsp_store_open.specs.declared.adding.TheConstants.{SECONDS, TAXES}
 use Rattle.bsp_store_open.specs.declared.old_versions.OldVersion.TheVariants.{First, Second}

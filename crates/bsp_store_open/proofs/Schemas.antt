@@ -1,6 +1,5 @@
 -- Tables that are ours from a place on, and the name of the index of a key.
-use Rattle.std.proofs.Common.{◌≡◌, ◌↔◌, ◌≤◌, ℕ, zero, suc, ◌+◌, ◌-◌, Bool, List, [], ◌∷◌, ◌++◌, drop, get_or, length, take, slice_get, Some, IsTrue, sym, ap, ap₂, ◌∙◌, subst, add-one, arith}
-use Rattle.std.proofs.lemmas.List.{append_cancel_right, take_all}
+use Rattle.bsp_store_base.proofs.Std.{[], ◌++◌, ◌+◌, ◌-◌, ◌↔◌, ◌∙◌, ◌∷◌, ◌≡◌, ◌≤◌, add-one, ap, append_cancel_right, ap₂, arith, Bool, drop, get_or, IsTrue, length, List, slice_get, Some, subst, suc, sym, take, take_all, zero, ℕ}
 use Rattle.sqlite_schema.specs.declared.schema.Table.{Table}
 
 joined : (ts : List Table) (at : ℕ) (t : Table) (others : List Table) (n : ℕ) → slice_get ts at ≡ Some t → others ≡ take n (drop (at + 1) ts) → t ∷ others ≡ take (suc n) (drop at ts)

@@ -1,7 +1,6 @@
 -- The tables of a version are not those of another one, and a store without tables has those of none.
 use Rattle.std.proofs.Common.{◌≡◌, Bool, List, [], ◌∷◌, true, false, true≢false, ap, arith, drop, refl, sym}
-use Rattle.sqlite_schema.specs.declared.schema.Schema.{Schema}
-use Rattle.sqlite_schema.specs.declared.schema.Table.{Table}
+use Rattle.bsp_store_base.proofs.Sqlite.{Schema, Table}
 use Rattle.bsp_store_load.specs.Schema.{no_schema, our_schema}
 use Rattle.bsp_store_load.specs.Columns.{version as our_version}
 use Rattle.bsp_store_open.specs.Old.{old_number, old_schema}

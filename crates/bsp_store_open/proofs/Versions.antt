@@ -1,43 +1,15 @@
 -- Tables whose rows were made of those of another one, and what the tables of a version kept before they were filled and keep
 -- after.
-use Rattle.std.proofs.Common.{◌≡◌, ℕ, ℤ, List, [], ◌∷◌, length, map, true, false, not, ◌&&◌, Option, Some, None, pos, refl, sym, ap, ap₂, ◌∙◌, subst, subst₂, drop, IsPermutation, Bool, ◌++◌, take, Ok, Err, Result, OnOk}
-use Rattle.std.specs.List.{AllByRecursion, list_all}
-use Rattle.std.proofs.lemmas.Bool.{and_parts}
-use Rattle.std.proofs.lemmas.List.Sorted.{IsPermutation-map, IsPermutation-sym, IsPermutation-trans, length_permutation, IsPermutation-refl}
-use Rattle.sqlite_value.specs.declared.value.Value.{Value}
-use Rattle.sqlite_value.specs.declared.value.Value.TheVariants.{Blob, Int, Null, Real, Text}
-use Rattle.sqlite_value.specs.Order.{Row, column}
-use Rattle.sqlite_trees.specs.Tree.{IsTable, Trees}
-use Rattle.sqlite_trees.proofs.ListLemmas.{all-map, all-permutation, all_from_map, all_of, all_weaker, map-map, all-append, all_both}
+use Rattle.bsp_store_base.proofs.Std.{[], ◌&&◌, ◌++◌, ◌==◌, ◌∙◌, ◌∷◌, ◌≡◌, AllByRecursion, and_parts, ap, ap₂, Bool, drop, entries, Err, false, FinMap, IsErrAnd, IsPermutation, IsPermutation-map, IsPermutation-refl, IsPermutation-sym, IsPermutation-trans, length, length_permutation, List, list_all, map, None, not, Ok, OnOk, Option, pos, refl, Result, Some, subst, subst₂, sym, take, true, ℕ, ℤ}
+use Rattle.bsp_store_base.proofs.Sqlite.{all-append, all-map, all-permutation, all_both, all_from_map, all_of, all_weaker, Blob, cast, column, Error, Ghosts, HasCleanDisk, Held, Int, IsSound, IsTable, map-map, Null, Real, Row, state, State, Table, Text, Trees, Value}
 use Rattle.sqlite_sql.specs.Ops.{is_null}
 use Rattle.sqlite_schema.specs.Rules.{are_present, are_typed, is_of, passes}
 use Rattle.sqlite_schema.specs.declared.schema.Kind.TheVariants.{Integer}
-use Rattle.sqlite_schema.specs.declared.schema.Table.{Table}
-use Rattle.sqlite_rules.specs.Cast.{cast}
-use Rattle.bsp_rows.specs.Item.{Item}
-use Rattle.bsp_rows.specs.Tally.{Tally}
-use Rattle.bsp_rows.specs.Days.{day_number}
-use Rattle.bsp_rows.specs.declared.keys.ItemKey.{ItemKey}
-use Rattle.bsp_rows.specs.declared.keys.TallyKey.{TallyKey}
-use Rattle.bsp_store_base.specs.Schema.{item_tax_table, meta_table, tally_tax_table, our_schema}
-use Rattle.bsp_store_base.specs.Columns.{Meta, agent_text, airline_text, count, flag, item_row, item_tax_row, meta_row, meta_rows, number_text, period_text, tally_row, tally_tax_row, placed}
-use Rattle.bsp_store_base.specs.Kept.{KeepsTable, columns_of, Part}
-use Rattle.bsp_store_base.proofs.Alone.{alone}
-use Rattle.bsp_store_base.proofs.Values.{cast_int, cast_same}
+use Rattle.bsp_store_base.proofs.Entries.{day_number, Item, item_cmp, ItemKey, Tally, tally_cmp, TallyKey}
+use Rattle.bsp_store_base.proofs.Base.{agent_text, airline_text, alone, cast_int, cast_same, columns_of, Content, count, flag, form, IsInOrder, item_row, item_tax_row, item_tax_table, KeepsTable, Meta, meta_row, meta_rows, meta_table, number_text, our_schema, Part, period_text, placed, table_trees, tally_row, tally_tax_row, tally_tax_table, width_of}
 use Rattle.bsp_store_open.specs.Filled.{HasNoTax, IsUntaxed, with_number, AreInOldOrder, Begun, Fills, IsBegun, IsFilled, IsFilling}
 use Rattle.bsp_store_open.specs.Statements.{AreMade, At, Keyed, stored, untaxed_item, untaxed_tally, with_version, Goes, HasSeconds, HasTaxes, IsAdded, IsAt, is_tree}
-use Rattle.std.specs.Prelude.{◌==◌, IsErrAnd}
-use Rattle.std.specs.FinMap.{FinMap, entries}
-use Rattle.sqlite_trees.specs.declared.store.Store.{Ghosts}
 use Rattle.sqlite_schema.specs.declared.schema.Constraint.TheVariants.{Datatype, NotNull}
-use Rattle.sqlite_catalog.specs.Listing.{IsSound}
-use Rattle.sqlite.specs.declared.error.Error.{Error}
-use Rattle.sqlite.specs.Held.{Held, state}
-use Rattle.sqlite.specs.State.{HasCleanDisk, State}
-use Rattle.bsp_rows.specs.Rows.{item_cmp}
-use Rattle.bsp_rows.specs.Tallies.{tally_cmp}
-use Rattle.bsp_store_base.specs.Order.{IsInOrder, table_trees}
-use Rattle.bsp_store_base.specs.Content.{Content, form, width_of}
 use Rattle.bsp_store_open.specs.Old.{old_schema}
 use Rattle.bsp_store_open.specs.declared.old_versions.OldVersion.{OldVersion}
 use Rattle.bsp_store_open.specs.declared.old_versions.OldVersion.TheVariants.{First, Second}

@@ -1,23 +1,9 @@
 -- What the tables of an older version keep of a content, and what filling them leaves.
-use Rattle.std.specs.Prelude.{◌≡◌, ℕ, ◌==◌, ◌-◌, true, not, pos, List, [], ◌∷◌, map, take, drop, refl, IsPermutation, IsTrue, OnOk, Result, ⊤}
-use Rattle.std.specs.FinMap.{entries}
-use Rattle.std.specs.List.{AllByRecursion, list_all}
-use Rattle.sqlite_value.specs.Order.{Row, column}
-use Rattle.sqlite_trees.specs.Tree.{Trees}
-use Rattle.sqlite_trees.specs.declared.store.Store.{Ghosts}
-use Rattle.sqlite.specs.Effect.{IsDatabase}
-use Rattle.sqlite.specs.Held.{Held, state}
-use Rattle.sqlite.specs.State.{HasCleanDisk, KeepsCommit, State}
-use Rattle.sqlite.specs.declared.error.Error.{Error}
-use Rattle.bsp_rows.specs.Item.{Item}
-use Rattle.bsp_rows.specs.Tally.{Tally}
-use Rattle.bsp_rows.specs.declared.keys.ItemKey.{ItemKey}
-use Rattle.bsp_rows.specs.declared.keys.TallyKey.{TallyKey}
-use Rattle.bsp_store_base.specs.Order.{AreInOrder, IsInOrder}
-use Rattle.bsp_store_base.specs.Schema.{meta_table, our_schema}
-use Rattle.bsp_store_base.specs.Columns.{count}
-use Rattle.bsp_store_base.specs.Content.{Content, form, meta_part, width_of}
-use Rattle.bsp_store_base.specs.Kept.{Form, KeepsRows, Part, Spares, columns_of}
+use Rattle.std.specs.Prelude.{[], ⊤, ◌-◌, ◌==◌, ◌∷◌, ◌≡◌, drop, IsPermutation, IsTrue, List, map, not, OnOk, pos, refl, Result, take, true, ℕ}
+use Rattle.bsp_store_base.specs.Std.{AllByRecursion, list_all, entries}
+use Rattle.bsp_store_base.specs.Sqlite.{column, Error, Ghosts, HasCleanDisk, Held, IsDatabase, KeepsCommit, Row, state, State, Trees}
+use Rattle.bsp_store_base.specs.Entries.{Item, ItemKey, Tally, TallyKey}
+use Rattle.bsp_store_base.specs.Base.{AreInOrder, columns_of, Content, count, form, Form, IsInOrder, KeepsRows, meta_part, meta_table, our_schema, Part, Spares, width_of}
 use Rattle.bsp_store_open.specs.Old.{old_number, old_schema, old_tables, table_count}
 use Rattle.bsp_store_open.specs.declared.old_versions.OldVersion.{OldVersion}
 use Rattle.bsp_store_open.specs.declared.old_versions.OldVersion.TheVariants.{First, Second}

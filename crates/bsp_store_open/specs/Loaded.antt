@@ -1,26 +1,19 @@
 -- What is known of rows in memory, as the tables of a store are put into them.
-use Rattle.std.specs.Prelude.{◌≡◌, ℕ, List, map, true, IsPermutation}
-use Rattle.std.specs.FinMap.{FinMap, empty, entries}
-use Rattle.std.specs.List.{AllByRecursion}
-use Rattle.std.specs.Ordering.{nat_cmp}
+use Rattle.std.specs.Prelude.{◌≡◌, IsPermutation, List, map, true, ℕ}
+use Rattle.bsp_store_base.specs.Std.{AllByRecursion, empty, entries, FinMap, nat_cmp}
 use Rattle.sqlite_trees.specs.Tree.{Trees}
 use Rattle.bsp_store_load.specs.Memos.{is_memo}
 use Rattle.bsp_store_load.specs.Published.{Published}
 use Rattle.bsp_store_load.specs.SoundPlan.{IsSoundPlan}
 use Rattle.bsp_store_load.specs.Item.{Item}
 use Rattle.bsp_store_load.specs.ReportedDocument.{ReportedDocument}
-use Rattle.bsp_book.specs.Rows.{Rows, item_cmp, memo_key, no_rows}
-use Rattle.bsp_book.specs.Sound.{IsRight, Sound}
+use Rattle.bsp_store_base.specs.Entries.{IsRight, item_cmp, memo_key, no_rows, Rows, Sound}
 use Rattle.bsp_store_load.specs.MemoryRowsTables.{rows_of}
 use Rattle.bsp_store_load.specs.Tables.{Tables}
 use Rattle.bsp_store_load.specs.Beside.{IsJoined, IsSecond, taxes_of}
-use Rattle.bsp_store_load.specs.Columns.{second_row, tax_row}
+use Rattle.bsp_store_base.specs.Base.{agent_part, columns_of, Content, content_with, form, IsFormed, item_part, item_tax_part, KeepsRows, memo_part, Part, second_part, second_row, seconds_of, stock_part, tax_row, ticket_cmp, width_of}
 use Rattle.bsp_store_load.specs.ItemTax.{ItemTax}
-use Rattle.bsp_store_load.specs.Kept.{KeepsRows, Part, columns_of}
-use Rattle.bsp_store_load.specs.Content.{Content, agent_part, content_with, form, item_part, item_tax_part, memo_part, second_part, stock_part, width_of}
 use Rattle.bsp_store_load.specs.Contents.{IsContentOf, content_now}
-use Rattle.bsp_store_load.specs.Forms.{IsFormed}
-use Rattle.bsp_store_load.specs.Seconds.{seconds_of, ticket_cmp}
 use Rattle.bsp_store_load.specs.Loading.{HasRows}
 use Rattle.bsp_store_load.specs.Stored.{AreRowsOfPlan, IsFormedPlan}
 use Rattle.bsp_store_load.specs.declared.plan_rows.PlanRows.{PlanRows}

@@ -1,22 +1,12 @@
 -- What an opening finds of a book of an earlier version, and what it makes of it.
 use Rattle.std.specs.Prelude.{◌≡◌, ◌⊎◌, ℕ, false, true, List, ◌∷◌, map, IsPermutation, IsTrue, None}
-use Rattle.sqlite_value.specs.Order.{Row, column}
-use Rattle.sqlite_trees.specs.Tree.{Trees}
-use Rattle.sqlite_trees.specs.declared.store.Store.{Ghosts}
-use Rattle.sqlite.specs.Effect.{IsDatabase}
-use Rattle.sqlite.specs.Held.{Held, state}
-use Rattle.sqlite.specs.State.{HasCleanDisk, IsLive, Shows}
-use Rattle.bsp_book.specs.Rows.{Rows}
-use Rattle.bsp_book.specs.Sound.{Sound}
+use Rattle.bsp_store_base.specs.Sqlite.{column, Ghosts, HasCleanDisk, Held, IsDatabase, IsLive, Row, Shows, state, Trees}
+use Rattle.bsp_store_base.specs.Entries.{Rows, Sound}
 use Rattle.bsp_book.specs.Listed.{meaning as listed}
 use Rattle.bsp_book.specs.declared.list.ListBook.{ListBook}
-use Rattle.bsp_store_load.specs.Schema.{our_schema}
-use Rattle.bsp_store_load.specs.Kept.{KeepsRows, Reads, columns_of}
-use Rattle.bsp_store_load.specs.Columns.{count}
-use Rattle.bsp_store_load.specs.Content.{Content, form, meta_part, width_of}
+use Rattle.bsp_store_base.specs.Base.{columns_of, Content, count, form, IsFormed, KeepsRows, meta_part, our_schema, Reads, width_of}
 use Rattle.bsp_store_load.specs.Contents.{IsContentOf}
 use Rattle.bsp_store_load.specs.Formed.{AreFormed, IsBook}
-use Rattle.bsp_store_load.specs.Forms.{IsFormed}
 use Rattle.bsp_store_open.specs.Filled.{HasOldNumber, IsOfOld, KeepsOldRows}
 use Rattle.bsp_store_open.specs.Old.{old_schema}
 use Rattle.bsp_store_open.specs.declared.old_versions.OldVersion.{OldVersion}

@@ -1,8 +1,6 @@
 -- The tables of versions 1 and 2, which are the first of ours.
 use Rattle.std.specs.Prelude.{ℕ, ◌+◌, List, ◌++◌, codes, take}
-use Rattle.sqlite_schema.specs.declared.schema.Table.{Table}
-use Rattle.sqlite_schema.specs.declared.schema.Index.{Index}
-use Rattle.sqlite_schema.specs.declared.schema.Schema.{Schema}
+use Rattle.bsp_store_base.specs.Sqlite.{Index, Schema, Table}
 use Rattle.bsp_store_base.specs.Schema.{key_index, our_indexes, our_tables, schema_of}
 use Rattle.bsp_store_open.specs.declared.old_versions.OldVersion.{OldVersion}
 use Rattle.bsp_store_open.specs.declared.old_versions.OldVersion.TheVariants.{First, Second}

@@ -1,29 +1,15 @@
 -- What an opening finds in a store, and what it leaves.
-use Rattle.std.specs.Prelude.{◌≡◌, ◌⊎◌, ◌&&◌, ⊤, Bool, ℕ, ℤ, pos, negsuc, nat_le, false, true, IsTrue, List, [], ◌∷◌, codes, map, IfErr, IfOk, IsPermutation, MatchResult, None, Result, Vec}
-use Rattle.std.specs.Global.{Global}
+use Rattle.std.specs.Prelude.{[], ⊤, ◌&&◌, ◌∷◌, ◌≡◌, ◌⊎◌, Bool, codes, false, IfErr, IfOk, IsPermutation, IsTrue, List, map, MatchResult, nat_le, negsuc, None, pos, Result, true, Vec, ℕ, ℤ}
 use Rattle.std.specs.List.{AllByRecursion}
-use Rattle.sqlite_value.specs.Order.{Row, column}
-use Rattle.sqlite_value.specs.declared.value.Value.TheVariants.{Int}
-use Rattle.sqlite_trees.specs.View.{IsClean}
-use Rattle.sqlite.specs.Effect.{Database}
-use Rattle.sqlite_trees.specs.Tree.{Trees}
-use Rattle.sqlite_trees.specs.declared.store.Store.{Ghosts}
-use Rattle.sqlite.specs.Held.{Held, IsNew, state}
-use Rattle.sqlite.specs.State.{FailsToQuery, HasCleanDisk, IsLive, Opens, Shown}
+use Rattle.std.specs.Global.{Global}
+use Rattle.bsp_store_base.specs.Sqlite.{column, Database, FailsToQuery, Ghosts, HasCleanDisk, Held, Int, IsClean, IsLive, IsNew, Opens, Row, Shown, state, Trees}
 use Rattle.sqlite.specs.declared.error.Error.{Error as StoreError}
-use Rattle.bsp_book.specs.Rows.{Rows, no_rows}
-use Rattle.bsp_book.specs.Sound.{Sound}
+use Rattle.bsp_store_base.specs.Entries.{no_rows, Rows, Sound}
 use Rattle.bsp_book.specs.Listed.{meaning as listed}
 use Rattle.bsp_book.specs.declared.list.ListBook.{ListBook}
-use Rattle.bsp_store_base.specs.Order.{AreInOrder, IsInOrder}
-use Rattle.bsp_store_load.specs.Schema.{our_schema}
-use Rattle.bsp_store_load.specs.Kept.{IsOutside, KeepsRows, Reads, HasContents, Spares, columns_of}
-use Rattle.bsp_store_load.specs.Columns.{count, version}
-use Rattle.bsp_store_load.specs.Content.{Content, airline_part, commission_tax_part, form, meta_part, period_part, rate_part, terms_part, width_of}
+use Rattle.bsp_store_base.specs.Base.{airline_part, AreAllOf, AreInOrder, columns_of, commission_tax_part, Content, count, form, HasContents, IsFormed, IsInOrder, IsOutside, KeepsRows, meta_part, our_schema, period_part, rate_part, Reads, Spares, terms_part, version, width_of}
 use Rattle.bsp_store_load.specs.Contents.{IsContentOf, KeepsBook}
 use Rattle.bsp_store_load.specs.Formed.{AreFormed, IsBook}
-use Rattle.bsp_store_load.specs.Forms.{IsFormed}
-use Rattle.bsp_store_load.specs.Shows.{AreAllOf}
 use Rattle.bsp_store_load.specs.declared.plan_rows.PlanRows.{PlanRows}
 use Rattle.bsp_store_open.specs.Faults.{is_refusal, refusal_for}
 use Rattle.bsp_store_open.specs.declared.fault.OpenFault.{OpenFault}

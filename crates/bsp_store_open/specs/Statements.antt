@@ -1,21 +1,8 @@
 -- What the statements that fill the tables of an older version make of the trees.
-use Rattle.std.specs.Prelude.{◌≡◌, ℕ, ◌==◌, ◌&&◌, pos, Bool, true, not, List, [], ◌∷◌, length, map, IsPermutation, IsTrue, OnOk, Result}
+use Rattle.std.specs.Prelude.{[], ◌&&◌, ◌==◌, ◌∷◌, ◌≡◌, Bool, IsPermutation, IsTrue, length, List, map, not, OnOk, pos, Result, true, ℕ}
 use Rattle.std.specs.List.{AllByRecursion, list_any}
-use Rattle.sqlite_value.specs.Order.{Row, column}
-use Rattle.sqlite_value.specs.declared.value.Value.TheVariants.{Int, Null}
-use Rattle.sqlite_trees.specs.Tree.{IsTable, Trees, rowid}
-use Rattle.sqlite_trees.specs.View.{is_int}
-use Rattle.sqlite_trees.specs.declared.store.Store.{Ghosts}
-use Rattle.sqlite_schema.specs.declared.schema.Schema.{Schema}
-use Rattle.sqlite_schema.specs.declared.schema.Table.{Table}
-use Rattle.sqlite_rules.specs.Cast.{cast_row}
-use Rattle.sqlite.specs.Effect.{IsDatabase}
-use Rattle.sqlite.specs.Held.{Held, state}
-use Rattle.sqlite.specs.State.{HasCleanDisk, KeepsCommit, State}
-use Rattle.sqlite.specs.declared.error.Error.{Error}
-use Rattle.bsp_store_base.specs.Schema.{commission_tax_table, item_table, item_tax_table, meta_table, second_related_table, tally_table, tally_tax_table}
-use Rattle.bsp_store_base.specs.Columns.{count, version}
-use Rattle.bsp_store_base.specs.Kept.{Spares, columns_of}
+use Rattle.bsp_store_base.specs.Sqlite.{cast_row, column, Error, Ghosts, HasCleanDisk, Held, Int, is_int, IsDatabase, IsTable, KeepsCommit, Null, Row, rowid, Schema, state, State, Table, Trees}
+use Rattle.bsp_store_base.specs.Base.{columns_of, commission_tax_table, count, item_table, item_tax_table, meta_table, second_related_table, Spares, tally_table, tally_tax_table, version}
 use Rattle.bsp_store_open.specs.Old.{old_tables}
 use Rattle.bsp_store_open.specs.declared.old_versions.OldVersion.{OldVersion}
 use Rattle.bsp_store_open.specs.declared.old_versions.OldVersion.TheVariants.{First, Second}

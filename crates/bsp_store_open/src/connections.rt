@@ -1,10 +1,7 @@
 //! A connection that is opened over a store, so that the order of the rows is known, whichever tables it has.
 
 ghost use Rattle.std.specs.Prelude.{◌≡◌, ◌≤◌, false, IfErr, IfOk};
-ghost use Rattle.sqlite_trees.specs.View.{IsClean, IsQuiet, doubt};
-ghost use Rattle.sqlite.specs.Held.{state, IsNew};
-ghost use Rattle.sqlite.specs.State.{HasCleanDisk, IsLive, Opens};
-ghost use Rattle.sqlite.specs.Steps.{IsFresh};
+ghost use Rattle.bsp_store_base.specs.Sqlite.{doubt, HasCleanDisk, IsClean, IsFresh, IsLive, IsNew, IsQuiet, Opens, state};
 ghost use Rattle.bsp_store_open.specs.Faults.{is_refusal};
 ghost use Rattle.bsp_store_open.specs.Opening.{AreAllInOrder, LeavesCommitted, Reopens};
 

@@ -1,8 +1,7 @@
 //! The number that the table `meta` of an earlier version has.
 
 ghost use Rattle.std.specs.Prelude.{◌≡◌, true, IfErr, OnOk};
-ghost use Rattle.sqlite.specs.Held.{state};
-ghost use Rattle.sqlite.specs.State.{HasCleanDisk};
+ghost use Rattle.bsp_store_base.specs.Sqlite.{HasCleanDisk, state};
 ghost use Rattle.bsp_store_load.specs.Kept.{Spares};
 ghost use Rattle.bsp_store_open.specs.Old.{old_number, old_schema};
 ghost use Rattle.bsp_store_open.specs.declared.old_versions.OldVersion.{OldVersion};

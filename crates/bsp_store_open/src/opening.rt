@@ -1,8 +1,7 @@
 //! A store read as a book in memory.
 
 ghost use Rattle.std.specs.Prelude.{◌≡◌, ◌⊎◌, true, false, IfErr, IfOk, OnOk};
-ghost use Rattle.bsp_book.specs.Rows.{no_rows};
-ghost use Rattle.bsp_book.specs.Sound.{Sound};
+ghost use Rattle.bsp_store_base.specs.Entries.{no_rows, Sound};
 ghost use Rattle.bsp_store_load.specs.MemoryRowsTables.{rows_of};
 ghost use Rattle.bsp_store_load.specs.Formed.{AreFormed};
 ghost use Rattle.bsp_store_load.specs.Kept.{Spares};

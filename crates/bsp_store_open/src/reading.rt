@@ -1,9 +1,7 @@
 //! All rows of the plan's tables of a store, and of its tallies and their taxes.
 
 ghost use Rattle.std.specs.Prelude.{◌≡◌, ⊤, true, IfErr, MatchResult, OnOk};
-ghost use Rattle.bsp_store_load.specs.Schema.{our_schema};
-ghost use Rattle.bsp_store_load.specs.Kept.{Spares};
-ghost use Rattle.bsp_store_load.specs.Shows.{AreAllOf};
+ghost use Rattle.bsp_store_base.specs.Base.{AreAllOf, our_schema, Spares};
 ghost use Rattle.bsp_store_load.specs.Whole.{part_of};
 ghost use Rattle.bsp_store_open.specs.Faults.{is_refusal, refusal_for};
 ghost use Rattle.bsp_store_open.specs.Opening.{ArePlanRows, IsAskedVersion, IsOfVersion, IsReading, IsRefusalOf, IsTableRead, Reports, ShowsNoBook};

@@ -1,6 +1,6 @@
 //! Tables in memory with all that the tables of a store keep.
 
-ghost use Rattle.std.specs.Prelude.{⊤, None, ◌≡◌, Err, IfErr, IfOk, MatchResult, Ok, Some, true};
+ghost use Rattle.std.specs.Prelude.{⊤, ◌≡◌, Err, IfErr, IfOk, MatchResult, None, Ok, Some, true};
 ghost use Rattle.std.specs.FinMap.{from_entries};
 ghost use Rattle.bsp_store_load.specs.Content.{tally_part, tally_tax_part};
 ghost use Rattle.bsp_store_load.specs.Contents.{content_now};

@@ -1,9 +1,7 @@
 //! The version that a store has in `meta`.
 
 ghost use Rattle.std.specs.Prelude.{◌≡◌, [], List, IfSome};
-ghost use Rattle.sqlite_value.specs.Order.{Row};
-ghost use Rattle.sqlite.specs.Held.{state};
-ghost use Rattle.sqlite.specs.State.{HasCleanDisk, Shown};
+ghost use Rattle.bsp_store_base.specs.Sqlite.{HasCleanDisk, Row, Shown, state};
 ghost use Rattle.bsp_store_load.specs.Kept.{Spares};
 ghost use Rattle.bsp_store_open.specs.Opening.{ShowsNumber, is_known, version_text};
 

@@ -1,27 +1,13 @@
 -- What is read back of a memo's row is the memo.
-use Rattle.std.proofs.Common.{◌≡◌, ℕ, ℤ, ◌<◌, ◌^◌, List, true, ◌&&◌, Option, Some, None, refl, sym, ap, ◌∙◌}
-use Rattle.std.specs.Prelude.{pos, negsuc, IfSome, nat_le, unsigned_abs}
-use Rattle.std.proofs.lemmas.Bool.{and_parts}
-use Rattle.sqlite_value.specs.declared.value.Value.TheVariants.{Int, Text}
-use Rattle.sqlite_value.specs.Order.{Row, column}
-use Rattle.sqlite.specs.Values.{or_null}
-use Rattle.bsp_rows.specs.CivilDay.{CivilDay}
-use Rattle.bsp_rows.specs.Days.{day_number}
-use Rattle.bsp_rows.specs.MemoFields.{MemoFields}
+use Rattle.bsp_store_base.proofs.Std.{◌&&◌, ◌<◌, ◌^◌, ◌∙◌, ◌≡◌, and_parts, ap, IfSome, List, nat_le, negsuc, None, Option, pos, refl, Some, sym, true, unsigned_abs, ℕ, ℤ}
+use Rattle.bsp_store_base.proofs.Sqlite.{column, Int, or_null, Row, Text}
+use Rattle.bsp_store_base.specs.Entries.{amount_fits, billing_fits, CivilDay, day_number, is_amount, is_memo, kind_fits, kind_text, memo_key, MemoFields, MemoKey, state_text}
 use Rattle.bsp_rows.specs.MemoKind.{MemoKind}
 use Rattle.bsp_rows.specs.MemoKind.TheVariants.{Debit, Credit}
 use Rattle.bsp_rows.specs.MemoState.{MemoState}
 use Rattle.bsp_rows.specs.MemoState.TheVariants.{Open, Agreed, Disputed, Upheld, Reduced, Withdrawn}
-use Rattle.bsp_rows.specs.Memos.{amount_fits, billing_fits, is_amount, is_memo, kind_fits}
 use Rattle.bsp_rows.specs.Reasons.{is_reason}
-use Rattle.bsp_rows.specs.Texts.{kind_text, state_text}
-use Rattle.bsp_rows.specs.declared.keys.MemoKey.{MemoKey}
-use Rattle.bsp_rows.specs.Rows.{memo_key}
-use Rattle.bsp_store_base.specs.Columns.{period_text, memo_row}
-use Rattle.bsp_store_base.specs.Reading.{agent_in, amount_in, code_in, if_there}
-use Rattle.bsp_store_base.specs.Forms.{IsMemoEntry}
-use Rattle.bsp_store_base.proofs.Days.{same_day}
-use Rattle.bsp_store_base.proofs.ReadBack.{agent_back, code_back}
+use Rattle.bsp_store_base.proofs.Base.{agent_back, agent_in, amount_in, code_back, code_in, if_there, IsMemoEntry, memo_row, period_text, same_day}
 use Rattle.bsp_store_rows.specs.MemoReading.{IsMemoIn, kind_in, memo_in, memo_key_in, memo_of, reason_in, restored, state_in}
 
 -- ---- single columns

@@ -1,37 +1,11 @@
 -- The tables of one row at most: that of the day and of the closed periods, and that of the terms.
 use Rattle.std.proofs.Common.{◌≡◌, ℕ, List, [], ◌∷◌, codes, map, Bool, true, false, is_some, Option, Some, None, Ok, refl, sym, ap, ap₂, subst, IsPermutation, Equal, filter, not}
-use Rattle.std.specs.List.{range_with_len}
-use Rattle.std.proofs.lemmas.List.Sorted.{IsPermutation-refl}
-use Rattle.sqlite_value.specs.declared.value.Value.TheVariants.{Null}
-use Rattle.sqlite_trees.specs.declared.store.Store.{Ghosts}
-use Rattle.sqlite_trees.proofs.ListLemmas.{all_of, filter_none}
-use Rattle.sqlite_sql.specs.Term.{lit, col, eval_all}
-use Rattle.sqlite_trees.specs.Tree.{rowid}
+use Rattle.bsp_store_base.proofs.Std.{⊤, IsPermutation-refl, option_to_list, range_with_len}
+use Rattle.bsp_store_base.proofs.Sqlite.{all_of, col, command_of, Delete, eval_all, everything, Executes, filter_none, Ghosts, Held, Insert, IsDatabase, IsPlain, lit, Null, reads_listing, Row, rowid, runs_as, Select, State, state, understood, Update}
 use Rattle.sqlite_schema.specs.declared.command.Source.TheVariants.{Values}
-use Rattle.sqlite_schema.specs.declared.command.Command.TheVariants.{Insert, Select, Update, Delete}
 use Rattle.sqlite_schema.specs.declared.schema.Column.{Column}
-use Rattle.sqlite_tied.specs.Compute.{everything}
-use Rattle.sqlite.specs.Effect.{IsDatabase}
-use Rattle.sqlite.specs.Listing.{understood, reads_listing}
-use Rattle.sqlite.specs.State.{State, Executes}
-use Rattle.sqlite.specs.Held.{Held, state}
-use Rattle.sqlite.proofs.Callers.{IsPlain, command_of, runs_as}
-use Rattle.bsp_store_base.specs.Kept.{Keeps, KeepsTable}
-use Rattle.bsp_store_base.specs.Simple.{simple}
-use Rattle.bsp_store_base.proofs.Writing.{inserts, updates, deletes}
-use Rattle.bsp_store_base.proofs.Keys.{flag_is, one_column}
-use Rattle.bsp_store_base.proofs.Parts.{wrote}
-use Rattle.bsp_store_base.proofs.Held.{writes}
-use Rattle.bsp_store_base.proofs.Values.{cast_int, cast_null, cast_same}
-use Rattle.bsp_store_base.specs.Schema.{our_schema, meta_table, meta_columns, terms_table, terms_columns}
-use Rattle.bsp_store_base.specs.Columns.{Meta, meta_row, meta_rows, terms_row, terms_rows}
-use Rattle.bsp_store_base.specs.Content.{Content, form}
-use Rattle.bsp_store_base.specs.MapTables.{key_project, key_test}
-use Rattle.bsp_store_base.proofs.Writes.{Does, no_work}
-use Rattle.std.specs.Prelude.{⊤}
-use Rattle.std.specs.Option.{option_to_list}
+use Rattle.bsp_store_base.proofs.Base.{cast_int, cast_null, cast_same, Content, deletes, Does, flag_is, form, inserts, Keeps, KeepsTable, key_project, key_test, Meta, meta_columns, meta_row, meta_rows, meta_table, no_work, one_column, our_schema, simple, terms_columns, terms_row, terms_rows, terms_table, updates, writes, wrote}
 use Rattle.bsp_rows.specs.Terms.{Terms}
-use Rattle.sqlite_value.specs.Order.{Row}
 
 -- ---- the texts
 

@@ -1,24 +1,9 @@
 -- The rows of each table, in the order of their keys or of their places, and what the statements of a table of keys mean.
-use Rattle.std.proofs.Common.{◌≡◌, map, false, ◌∙◌, Less, Ordering, [], Option, Some, None}
-use Rattle.std.specs.FinMap.{entries}
-use Rattle.std.specs.List.{AllByRecursion, range_with_len}
-use Rattle.sqlite_value.specs.Order.{Row}
-use Rattle.sqlite_trees.specs.Tree.{IsAscending, Trees}
-use Rattle.sqlite_sql.specs.Query.{Output}
-use Rattle.sqlite_sql.specs.Term.{col}
-use Rattle.sqlite.specs.Listing.{reads_listing}
+use Rattle.bsp_store_base.proofs.Std.{[], ◌∙◌, ◌≡◌, AllByRecursion, entries, false, Less, map, None, Option, Ordering, range_with_len, Some}
+use Rattle.bsp_store_base.proofs.Sqlite.{col, IsAscending, Output, reads_listing, Row, Trees}
 use Rattle.bsp_rows.specs.Terms.{Terms}
-use Rattle.bsp_store_base.specs.Columns.{Meta, meta_rows, terms_rows}
-use Rattle.bsp_store_base.specs.Content.{Content}
-use Rattle.bsp_store_base.specs.Forms.{IsAgentEntry, IsFormed, IsMemoEntry, IsRangeEntry, IsTallyKey, IsAirlineEntry}
-use Rattle.bsp_store_base.specs.Kept.{columns_of}
-use Rattle.bsp_store_base.specs.MapTables.{AreStatementsOf, IsMapTable, IsText, MapTable, by_keys, change, deletion, insertion, part, selection, width}
-use Rattle.bsp_store_base.specs.Schema.{our_schema}
+use Rattle.bsp_store_base.proofs.Base.{AreStatementsOf, by_keys, change, code_order, columns_of, Content, deletion, entries_rise, insertion, IsAgentEntry, IsAirlineEntry, IsBefore, IsFormed, IsMapTable, IsMemoEntry, IsRangeEntry, IsTallyKey, IsText, keys_of, MapTable, Meta, meta_rows, one_order, our_schema, out, part, rows_rise, selection, shows_all, terms_rows, three_orders, two_orders, width}
 use Rattle.bsp_store_base.specs.declared.keyed_table.Statements.{Statements}
-use Rattle.bsp_store_base.proofs.MapTables.{shows_all}
-use Rattle.bsp_store_base.proofs.Orders.{code_order, one_order, three_orders, two_orders}
-use Rattle.bsp_store_base.proofs.ReadingLemmas.{out}
-use Rattle.bsp_store_base.proofs.Rising.{IsBefore, entries_rise, keys_of, rows_rise}
 use Rattle.bsp_store_rows.specs.Tables.{agents_map, memos_map, ranges_map, tallies_map, airlines_map}
 
 -- ---- by keys

@@ -1,10 +1,6 @@
 -- A text that is no UTF-8 is no word of a memo.
-use Rattle.std.proofs.Common.{◌≡◌, ℕ, List, codes, Bool, true, false, None, refl, sym, ◌∙◌, subst, nat_cmp}
+use Rattle.bsp_store_base.proofs.Std.{◌∙◌, ◌≡◌, Bool, codes, Equal-is, false, is_eq-slice_cmp, List, nat_cmp, nat_cmp-IsAntisymmetric, None, refl, slice_cmp, slice_cmp-IsAntisymmetric, subst, sym, true, ℕ}
 use Rattle.std.specs.Str.{IsUtf8, bytes_eq}
-use Rattle.std.specs.Cmp.{Equal-is}
-use Rattle.std.specs.Cmp.Lexicographic.{slice_cmp}
-use Rattle.std.specs.FinMap.{nat_cmp-IsAntisymmetric, slice_cmp-IsAntisymmetric}
-use Rattle.std.proofs.lemmas.Map.Text.{is_eq-slice_cmp}
 use Rattle.bsp_rows.specs.Texts.{kind_reading, state_reading}
 
 other_word : (text word : List ℕ) → IsUtf8 word → (IsUtf8 text → ⊥) → bytes_eq text word ≡ false

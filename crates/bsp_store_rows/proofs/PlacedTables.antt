@@ -1,39 +1,9 @@
 -- What INSERT of the next entry makes of a table whose rows have places, and what the rest of a list makes of the content.
-use Rattle.std.proofs.Common.{◌≡◌, ℕ, ◌+◌, ◌<◌, ◌≤◌, List, [], ◌∷◌, ◌++◌, false, map, length, take, get_or, Ok, Err, Result, OnOk, OnErr, sym, ap, ap₂, ◌∙◌, subst, IsPermutation}
-use Rattle.std.specs.List.{range_with_len}
+use Rattle.bsp_store_base.proofs.Std.{[], ◌++◌, ◌+◌, ◌<◌, ◌∙◌, ◌∷◌, ◌≡◌, ◌≤◌, ap, ap₂, Err, false, get_or, IsPermutation, IsPermutation-middle, length, List, map, Ok, OnErr, OnOk, range_with_len, Result, subst, sym, take, ℕ}
 use Rattle.std.proofs.lemmas.List.{append-nil, map-append, take_all}
-use Rattle.std.proofs.lemmas.List.Sorted.{IsPermutation-middle}
-use Rattle.sqlite_value.specs.declared.value.Value.TheVariants.{Null}
-use Rattle.sqlite_value.specs.Order.{Row}
-use Rattle.sqlite_trees.specs.Tree.{Trees}
-use Rattle.sqlite_trees.specs.declared.store.Store.{Ghosts}
-use Rattle.sqlite_schema.specs.declared.command.Command.TheVariants.{Select}
+use Rattle.bsp_store_base.proofs.Sqlite.{col, command_of, Error, Executes, Ghosts, Held, IsPlain, lit, Null, Output, reads_listing, Row, Select, State, state, Trees, understood}
 use Rattle.sqlite_schema.specs.declared.schema.Column.{Column}
-use Rattle.sqlite_sql.specs.Query.{Output}
-use Rattle.sqlite_sql.specs.Term.{lit, col}
-use Rattle.sqlite.specs.Listing.{reads_listing, understood}
-use Rattle.sqlite.specs.State.{State, Executes}
-use Rattle.sqlite.specs.Held.{Held, state}
-use Rattle.sqlite.specs.declared.error.Error.{Error}
-use Rattle.sqlite.proofs.Callers.{IsPlain, command_of}
-use Rattle.bsp_store_base.specs.Calls.{Changes, GivesUp, GivesUpIf}
-use Rattle.bsp_store_base.specs.Columns.{placed}
-use Rattle.bsp_store_base.specs.Content.{Content, form}
-use Rattle.bsp_store_base.specs.Kept.{HasContents, IsInside, Keeps, columns_of}
-use Rattle.bsp_store_base.specs.MapTables.{HasRun, IsText}
-use Rattle.bsp_store_base.specs.Schema.{our_schema}
-use Rattle.bsp_store_base.specs.Simple.{simple}
-use Rattle.bsp_store_base.proofs.Held.{writes}
-use Rattle.bsp_store_base.proofs.MapTables.{command_is}
-use Rattle.bsp_store_base.proofs.Opening.{table_shown}
-use Rattle.bsp_store_base.proofs.Orders.{placed_rise}
-use Rattle.bsp_store_base.proofs.Parts.{wrote}
-use Rattle.bsp_store_base.proofs.Placing.{next_place, one_more, placed_next}
-use Rattle.bsp_store_base.proofs.ReadingLemmas.{out}
-use Rattle.bsp_store_base.proofs.Rising.{IsBefore, keys_of}
-use Rattle.bsp_store_base.proofs.Values.{cast_null}
-use Rattle.bsp_store_base.proofs.Writes.{no_work}
-use Rattle.bsp_store_base.proofs.Writing.{inserts}
+use Rattle.bsp_store_base.proofs.Base.{cast_null, Changes, columns_of, command_is, Content, form, GivesUp, GivesUpIf, HasContents, HasRun, inserts, IsBefore, IsInside, IsText, Keeps, keys_of, next_place, no_work, one_more, our_schema, out, placed, placed_next, placed_rise, simple, table_shown, writes, wrote}
 use Rattle.bsp_store_rows.specs.declared.placed.PlacedStatements.{PlacedStatements}
 use Rattle.bsp_store_rows.specs.PlacedTables.{ArePlacedStatements, IsPlacedList, PlacedList, by_place, has_first, insertion, is_next, part, width, with_more}
 

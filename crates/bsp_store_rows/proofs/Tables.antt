@@ -1,22 +1,10 @@
 -- What is known of the tables. A search finds what computes: it is given the order of the keys, how the columns of a key are
 -- compared, what a cast leaves, and the place of the table among those of the form.
-use Rattle.std.proofs.Common.{◌≡◌, ℕ, refl}
-use Rattle.std.specs.Prelude.{pos}
-use Rattle.std.specs.Cmp.{nat_cmp_total}
-use Rattle.std.specs.FinMap.{nat_cmp-IsAntisymmetric}
-use Rattle.sqlite_trees.specs.Tree.{Trees}
-use Rattle.sqlite_rules.specs.Cast.{cast_all}
-use Rattle.bsp_rows.specs.MemoFields.{MemoFields}
-use Rattle.bsp_rows.specs.declared.keys.MemoKey.{MemoKey}
-use Rattle.bsp_rows.proofs.KeyOrders.{memo_exact, memo_total, range_exact, range_total, tally_exact, tally_total}
-use Rattle.bsp_store_base.specs.Columns.{airline_row, memo_row}
-use Rattle.bsp_store_base.specs.Content.{Content, form}
-use Rattle.bsp_store_base.specs.Kept.{KeepsRows}
-use Rattle.bsp_store_base.specs.MapTables.{IsMapTable}
-use Rattle.bsp_store_base.specs.Schema.{airline_columns, memo_columns}
+use Rattle.bsp_store_base.proofs.Std.{◌≡◌, nat_cmp-IsAntisymmetric, nat_cmp_total, pos, refl, ℕ}
+use Rattle.bsp_store_base.proofs.Sqlite.{cast_all, Trees}
+use Rattle.bsp_store_base.proofs.Entries.{memo_exact, memo_total, MemoFields, MemoKey, range_exact, range_total, tally_exact, tally_total}
+use Rattle.bsp_store_base.proofs.Base.{airline_columns, airline_row, cast_int, cast_maybe_int, cast_maybe_text, cast_same, code_is, Content, form, IsMapTable, KeepsRows, memo_columns, memo_row, one_column, three_columns, two_columns}
 use Rattle.bsp_store_base.specs.declared.airlines.AirlineEntry.{AirlineEntry}
-use Rattle.bsp_store_base.proofs.Keys.{code_is, one_column, three_columns, two_columns}
-use Rattle.bsp_store_base.proofs.Values.{cast_int, cast_maybe_text, cast_same, cast_maybe_int}
 use Rattle.bsp_store_rows.specs.Tables.{agents_map, memos_map, ranges_map, tallies_map, airlines_map, commission_taxes_list, periods_list, rates_list}
 use Rattle.bsp_store_rows.specs.PlacedTables.{IsPlacedList}
 

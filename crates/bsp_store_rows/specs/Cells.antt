@@ -1,8 +1,6 @@
 -- The values that are written for each entry.
 use Rattle.std.specs.Prelude.{List, [], ◌∷◌, map}
-use Rattle.sqlite_value.specs.declared.value.Value.{Value}
-use Rattle.sqlite_value.specs.declared.value.Value.TheVariants.{Int, Null, Text}
-use Rattle.sqlite_value.specs.Order.{Row}
+use Rattle.bsp_store_base.specs.Sqlite.{Int, Null, Row, Text, Value}
 use Rattle.bsp_store_base.specs.Columns.{count}
 use Rattle.bsp_rows.specs.Texts.{kind_text, state_text}
 use Rattle.bsp_store_rows.specs.declared.cells.Cell.{Cell}

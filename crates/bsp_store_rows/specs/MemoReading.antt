@@ -1,17 +1,10 @@
 -- What a row of the tables reads as, whatever its form.
 use Rattle.std.specs.Prelude.{◌≡◌, if◌then◌else◌, List, ℕ, Option, Some, None, option_map, option_and_then}
-use Rattle.sqlite_value.specs.declared.value.Value.{Value}
-use Rattle.sqlite_value.specs.declared.value.Value.TheVariants.{Text}
-use Rattle.sqlite_value.specs.Order.{Row, column}
-use Rattle.bsp_rows.specs.CivilDay.{CivilDay}
-use Rattle.bsp_rows.specs.MemoFields.{MemoFields}
+use Rattle.bsp_store_base.specs.Sqlite.{column, Row, Text, Value}
+use Rattle.bsp_store_base.specs.Entries.{CivilDay, is_memo, kind_reading, MemoFields, MemoKey, state_reading, TallyKey}
 use Rattle.bsp_rows.specs.MemoKind.{MemoKind}
 use Rattle.bsp_rows.specs.MemoState.{MemoState}
-use Rattle.bsp_rows.specs.Memos.{is_memo}
 use Rattle.bsp_rows.specs.Reasons.{reason_reading}
-use Rattle.bsp_rows.specs.Texts.{kind_reading, state_reading}
-use Rattle.bsp_rows.specs.declared.keys.MemoKey.{MemoKey}
-use Rattle.bsp_rows.specs.declared.keys.TallyKey.{TallyKey}
 use Rattle.bsp_store_base.specs.Reading.{IsDayIn, agent_in, amount_in, code_in, if_there}
 
 -- ---- words

@@ -1,29 +1,9 @@
 -- A table whose rows are the entries of a list of the content, each with its place: what INSERT of the next is there, and
 -- SELECT for all rows.
-use Rattle.std.specs.Prelude.{◌≡◌, ℕ, ◌+◌, ◌/◌, List, [], ◌∷◌, ◌++◌, false, map, length, take, Some, slice_get, IsPermutation}
+use Rattle.std.specs.Prelude.{[], ◌++◌, ◌+◌, ◌/◌, ◌∷◌, ◌≡◌, false, IsPermutation, length, List, map, slice_get, Some, take, ℕ}
 use Rattle.std.specs.List.{range_with_len}
-use Rattle.sqlite_value.specs.declared.value.Value.{Value}
-use Rattle.sqlite_value.specs.declared.value.Value.TheVariants.{Null}
-use Rattle.sqlite_value.specs.declared.keys.Collation.TheVariants.{Binary}
-use Rattle.sqlite_value.specs.declared.keys.Key.{Key}
-use Rattle.sqlite_value.specs.Keys.{ascending}
-use Rattle.sqlite_value.specs.Order.{Row}
-use Rattle.sqlite_trees.specs.Tree.{Trees}
-use Rattle.sqlite_sql.specs.Term.{Term, lit, col}
-use Rattle.sqlite_sql.specs.Program.{overlay}
-use Rattle.sqlite_rules.specs.Cast.{cast_all}
-use Rattle.sqlite_schema.specs.declared.command.Command.{Command}
-use Rattle.sqlite_schema.specs.declared.command.Command.TheVariants.{Insert}
-use Rattle.sqlite_schema.specs.declared.command.Source.TheVariants.{Values}
-use Rattle.sqlite_schema.specs.declared.schema.Table.{Table}
-use Rattle.sqlite.specs.Effect.{value_rows}
-use Rattle.sqlite.specs.Rows.{stamped}
-use Rattle.bsp_store_base.specs.Columns.{placed}
-use Rattle.bsp_store_base.specs.Content.{Content, form, width_of}
-use Rattle.bsp_store_base.specs.Kept.{HasRowsNow, KeepsRows, KeepsTable, Part, columns_of}
-use Rattle.bsp_store_base.specs.MapTables.{IsText}
-use Rattle.bsp_store_base.specs.Schema.{our_schema}
-use Rattle.bsp_store_base.specs.Shows.{ShowsTable}
+use Rattle.bsp_store_base.specs.Sqlite.{ascending, Binary, cast_all, col, Command, Insert, Key, lit, Null, overlay, Row, stamped, Table, Term, Trees, Value, value_rows, Values}
+use Rattle.bsp_store_base.specs.Base.{columns_of, Content, form, HasRowsNow, IsText, KeepsRows, KeepsTable, our_schema, Part, placed, ShowsTable, width_of}
 use Rattle.bsp_store_rows.specs.declared.placed.PlacedStatements.{PlacedStatements}
 
 -- the table: its number in the schema, the list whose entries its rows are, the row of an entry at its place, and the

@@ -1,17 +1,9 @@
 -- Which entry a row is read as.
 use Rattle.std.specs.Prelude.{◌≡◌, ◌^◌, ℕ, Option, option_and_then, option_map}
-use Rattle.sqlite_value.specs.declared.value.Value.TheVariants.{Int, Text}
-use Rattle.sqlite_value.specs.Order.{Row, column}
-use Rattle.bsp_rows.specs.CivilDay.{CivilDay}
-use Rattle.bsp_rows.specs.Days.{day_number}
-use Rattle.bsp_rows.specs.Period.{Period}
-use Rattle.bsp_rows.specs.Rate.{Rate}
-use Rattle.bsp_rows.specs.CommissionTax.{CommissionTax}
-use Rattle.bsp_rows.specs.Terms.{Terms}
+use Rattle.bsp_store_base.specs.Sqlite.{column, Int, Row, Text}
+use Rattle.bsp_store_base.specs.Entries.{CivilDay, CommissionTax, day_number, Period, Rate, Terms}
+use Rattle.bsp_store_base.specs.Base.{airline_text, below, code_in, count, entry_of, if_there, period_text, token_in, version}
 use Rattle.bsp_store_base.specs.declared.airlines.AirlineEntry.{AirlineEntry}
-use Rattle.bsp_store_base.specs.Airlines.{entry_of}
-use Rattle.bsp_store_base.specs.Columns.{version, count, airline_text, period_text}
-use Rattle.bsp_store_base.specs.Reading.{below, code_in, if_there, token_in}
 
 -- ---- what the columns of a row say, its place and its id apart
 

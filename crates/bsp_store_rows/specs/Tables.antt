@@ -1,18 +1,7 @@
 -- The tables of callers and of a plan, as those of maps and of lists of the content.
 use Rattle.std.proofs.Common.{ℕ, List, [], ◌∷◌, nat_cmp}
-use Rattle.bsp_rows.specs.MemoFields.{MemoFields}
-use Rattle.bsp_rows.specs.Rows.{memo_cmp, range_cmp}
-use Rattle.bsp_rows.specs.Tallies.{tally_cmp}
-use Rattle.bsp_rows.specs.Tally.{Tally}
-use Rattle.bsp_rows.specs.declared.keys.MemoKey.{MemoKey}
-use Rattle.bsp_rows.specs.declared.keys.RangeKey.{RangeKey}
-use Rattle.bsp_rows.specs.declared.keys.TallyKey.{TallyKey}
-use Rattle.bsp_rows.specs.CommissionTax.{CommissionTax}
-use Rattle.bsp_rows.specs.Period.{Period}
-use Rattle.bsp_rows.specs.Rate.{Rate}
-use Rattle.bsp_store_base.specs.Columns.{agent_row, agent_text, airline_text, memo_row, number_text, period_text, stock_row, tally_row, airline_row, commission_tax_row, period_row, rate_row}
-use Rattle.bsp_store_base.specs.Schema.{agent_table, memo_table, stock_table, tally_table, airline_table, commission_tax_table, period_table, rate_table}
-use Rattle.bsp_store_base.specs.MapTables.{MapTable}
+use Rattle.bsp_store_base.specs.Entries.{CommissionTax, memo_cmp, MemoFields, MemoKey, Period, range_cmp, RangeKey, Rate, Tally, tally_cmp, TallyKey}
+use Rattle.bsp_store_base.specs.Base.{agent_row, agent_table, agent_text, airline_row, airline_table, airline_text, commission_tax_row, commission_tax_table, MapTable, memo_row, memo_table, number_text, period_row, period_table, period_text, rate_row, rate_table, stock_row, stock_table, tally_row, tally_table}
 use Rattle.bsp_store_base.specs.declared.airlines.AirlineEntry.{AirlineEntry}
 use Rattle.bsp_store_rows.specs.PlacedTables.{PlacedList}
 

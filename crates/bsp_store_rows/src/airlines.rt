@@ -2,10 +2,8 @@
 
 ghost use Rattle.std.specs.Prelude.{◌≡◌};
 ghost use Rattle.std.specs.Option.{ForSome};
-ghost use Rattle.sqlite_value.specs.declared.value.Value.TheVariants.{Text};
-ghost use Rattle.sqlite.specs.Values.{bound, or_null};
-ghost use Rattle.bsp_store_base.specs.Airlines.{HasStoredPlace};
-ghost use Rattle.bsp_store_base.specs.Columns.{airline_row, count};
+ghost use Rattle.bsp_store_base.specs.Sqlite.{bound, or_null, Text};
+ghost use Rattle.bsp_store_base.specs.Base.{airline_row, count, HasStoredPlace};
 ghost use Rattle.bsp_store_rows.specs.Cells.{cell, written};
 
 use crate::cells::{Cell, run};

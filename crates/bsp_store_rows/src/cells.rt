@@ -1,8 +1,7 @@
 //! The values of a row, kept until they are bound to a statement.
 
 ghost use Rattle.std.specs.Prelude.{◌≡◌};
-ghost use Rattle.sqlite.specs.Values.{bound, bound_value};
-ghost use Rattle.sqlite_value.specs.Value.{owned};
+ghost use Rattle.bsp_store_base.specs.Sqlite.{bound, bound_value, owned};
 ghost use Rattle.bsp_store_base.specs.MapTables.{HasRun};
 ghost use Rattle.bsp_store_rows.specs.Cells.{cell};
 

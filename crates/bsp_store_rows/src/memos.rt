@@ -1,10 +1,8 @@
 //! The table of the memos, and a memo, read out of a row.
 
 ghost use Rattle.std.specs.Prelude.{◌≡◌};
-ghost use Rattle.sqlite_value.specs.Order.{column};
-ghost use Rattle.sqlite.specs.Values.{bound, or_null};
-ghost use Rattle.bsp_store_base.specs.Columns.{memo_row, period_text};
-ghost use Rattle.bsp_store_base.specs.Reading.{code_in, if_there};
+ghost use Rattle.bsp_store_base.specs.Sqlite.{bound, column, or_null};
+ghost use Rattle.bsp_store_base.specs.Base.{code_in, if_there, memo_row, period_text};
 ghost use Rattle.bsp_store_rows.specs.Cells.{cell, memo_written};
 ghost use Rattle.bsp_store_rows.specs.MemoReading.{IsMemoIn, kind_in, memo_key_in, memo_in, memo_of, reason_in, state_in};
 

@@ -1,14 +1,8 @@
 //! The tables of one row: `meta`, of the version of the tables and the business day, and that of the terms.
 
 ghost use Rattle.std.specs.Prelude.{◌≡◌, is_some, ◌<◌, ◌^◌, None, Some, OnOk, OnErr, ⊤};
-ghost use Rattle.sqlite.specs.Held.{state};
-ghost use Rattle.sqlite.specs.State.{HasCleanDisk, Survives};
-ghost use Rattle.sqlite.specs.Values.{bound};
-ghost use Rattle.bsp_store_base.specs.Calls.{Changes, GivesUp};
-ghost use Rattle.bsp_store_base.specs.Columns.{meta_row, terms_row};
-ghost use Rattle.bsp_store_base.specs.Content.{Content, form, meta_part, terms_part};
-ghost use Rattle.bsp_store_base.specs.Kept.{Keeps, KeepsSound};
-ghost use Rattle.bsp_store_base.specs.Shows.{ShowsTable};
+ghost use Rattle.bsp_store_base.specs.Sqlite.{bound, HasCleanDisk, state, Survives};
+ghost use Rattle.bsp_store_base.specs.Base.{Changes, Content, form, GivesUp, Keeps, KeepsSound, meta_part, meta_row, ShowsTable, terms_part, terms_row};
 ghost use Rattle.bsp_store_rows.specs.Cells.{written};
 
 use crate::cells::Cell;

@@ -3,8 +3,7 @@
 
 ghost use Rattle.std.specs.Prelude.{◌≡◌, ◌<◌, ◌^◌, length, OnErr, OnOk};
 ghost use Rattle.sqlite.specs.Values.{bound};
-ghost use Rattle.bsp_store_base.specs.Calls.{Changes, GivesUpIf};
-ghost use Rattle.bsp_store_base.specs.Columns.{commission_tax_row, period_row, rate_row};
+ghost use Rattle.bsp_store_base.specs.Base.{Changes, commission_tax_row, GivesUpIf, period_row, rate_row};
 ghost use Rattle.bsp_store_rows.specs.Cells.{written};
 ghost use Rattle.bsp_store_rows.specs.PlacedTables.{has_first, with_all};
 

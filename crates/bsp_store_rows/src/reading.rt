@@ -1,19 +1,15 @@
 //! The entries of the plan, read back from rows that any program may have written.
 
 ghost use Rattle.std.specs.Prelude.{◌≡◌, ◌<◌, ◌^◌, ℕ, List, IfSome, IsTrue};
-ghost use Rattle.sqlite_value.specs.Order.{column};
-ghost use Rattle.sqlite_value.specs.declared.value.Value.TheVariants.{Int, Text};
-ghost use Rattle.bsp_rows.specs.CivilDay.{CivilDay, is_day};
-ghost use Rattle.bsp_rows.specs.Days.{day_number};
+ghost use Rattle.bsp_store_base.specs.Sqlite.{column, Int, Text};
+ghost use Rattle.bsp_store_base.specs.Entries.{CivilDay, day_number, is_day};
 ghost use Rattle.bsp_rows.specs.Letters.{currency_reading};
 ghost use Rattle.bsp_rows.specs.Period.{Period as PeriodEntry};
 ghost use Rattle.bsp_rows.specs.Rate.{Rate as RateEntry};
 ghost use Rattle.bsp_rows.specs.CommissionTax.{CommissionTax as TaxEntry};
 ghost use Rattle.bsp_rows.specs.Terms.{Terms as TermsEntry};
-ghost use Rattle.bsp_store_base.specs.Columns.{airline_text, period_text};
-ghost use Rattle.bsp_store_base.specs.Reading.{below, if_there, int_in, token_in};
+ghost use Rattle.bsp_store_base.specs.Base.{airline_text, AreTerms, below, if_there, int_in, IsCommissionTax, IsPeriod, IsRate, period_text, token_in};
 ghost use Rattle.bsp_store_rows.specs.Reading.{IsMetaRow, IsTermsRow, IsRateRow, IsPeriodRow, IsCommissionTaxRow, airline_in};
-ghost use Rattle.bsp_store_base.specs.Forms.{AreTerms, IsRate, IsPeriod, IsCommissionTax};
 
 use crate::one_row::VERSION;
 use bsp_rows::{AirlineCode, CommissionTax, Currency, Day, Period, PeriodCode, Rate, Terms, Token};

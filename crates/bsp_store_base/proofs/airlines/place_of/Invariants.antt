@@ -1,5 +1,4 @@
-use Rattle.std.proofs.Common.{◌≡◌, ◌<◌, ◌^◌, take}
-use Rattle.std.specs.Option.{ForSome}
+use Rattle.bsp_store_base.proofs.Std.{◌<◌, ◌^◌, ◌≡◌, ForSome, take}
 use Rattle.bsp_store_base.specs.Airlines.{place_of}
 use Rattle.bsp_store_base.proofs.airlines.place_of.Given as goal
 

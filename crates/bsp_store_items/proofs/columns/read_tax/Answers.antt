@@ -1,7 +1,4 @@
-use Rattle.std.proofs.Common.{◌≡◌, ◌≢◌, ℕ, List, Some, ℤ, refl, sym, ◌∙◌, ap}
-use Rattle.std.proofs.lemmas.Bool.{ne_eqb}
-use Rattle.std.specs.Prelude.{slice_index}
-use Rattle.std.specs.Result.{result_ok}
+use Rattle.bsp_store_base.proofs.Std.{◌∙◌, ◌≡◌, ◌≢◌, ap, List, ne_eqb, refl, result_ok, slice_index, Some, sym, ℕ, ℤ}
 use Rattle.bsp_fields.specs.Zoned.{zoned_reading}
 use Rattle.bsp_ret_writer.specs.Taxes.{code_part, amount_part}
 use Rattle.bsp_store_items.specs.Reading.{tax_in}

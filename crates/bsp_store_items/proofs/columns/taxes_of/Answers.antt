@@ -1,5 +1,4 @@
-use Rattle.std.proofs.Common.{◌≡◌, ℕ, suc, List, ◌∷◌, Option, Some, None, take, drop, sym, ap, ◌∙◌}
-use Rattle.std.specs.Prelude.{option_and_then, option_map}
+use Rattle.bsp_store_base.proofs.Std.{◌∙◌, ◌∷◌, ◌≡◌, ap, drop, List, None, Option, option_and_then, option_map, Some, suc, sym, take, ℕ}
 use Rattle.bsp_rows.specs.Tax.{Tax}
 use Rattle.bsp_store_items.specs.Reading.{tax_in, taxes_in}
 use Rattle.bsp_store_items.proofs.columns.taxes_of.Goals as goal

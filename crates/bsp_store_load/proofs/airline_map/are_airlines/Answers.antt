@@ -1,14 +1,7 @@
-use Rattle.std.proofs.Common.{◌≡◌, ℕ, true, List, map, sym, ap, subst, ◌∙◌, nat_cmp}
-use Rattle.std.specs.Cmp.{nat_cmp_total}
-use Rattle.std.specs.FinMap.{FinMap, entries, from_entries}
-use Rattle.std.specs.List.{AllByRecursion, filter}
-use Rattle.std.specs.List.Sorted.{IsStrictlySortedBy}
-use Rattle.std.specs.Map.{keys_of}
-use Rattle.bsp_maps.proofs.OrderLemmas.{in_order}
-use Rattle.bsp_maps.proofs.PickLemmas.{all_pass}
+use Rattle.bsp_store_base.proofs.Std.{◌∙◌, ◌≡◌, AllByRecursion, ap, entries, filter, FinMap, from_entries, IsStrictlySortedBy, keys_of, List, map, nat_cmp, nat_cmp_total, subst, sym, true, ℕ}
+use Rattle.bsp_store_base.proofs.Entries.{all_pass, in_order}
+use Rattle.bsp_store_base.proofs.Base.{airline_row, HasStoredPlace}
 use Rattle.bsp_store_base.specs.declared.airlines.AirlineEntry.{AirlineEntry}
-use Rattle.bsp_store_base.specs.Airlines.{HasStoredPlace}
-use Rattle.bsp_store_base.specs.Columns.{airline_row}
 use Rattle.bsp_store_load.proofs.airline_map.are_airlines.Goals as goal
 
 -- the entries of a map in memory are those of the map that it is

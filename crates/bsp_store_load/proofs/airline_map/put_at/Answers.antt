@@ -1,6 +1,4 @@
-use Rattle.std.proofs.Common.{List, ℕ, Option, Some, sym, ap, ◌∙◌, nat_cmp}
-use Rattle.std.specs.Cmp.{nat_cmp_total}
-use Rattle.std.specs.FinMap.{from_entries, insert, nat_cmp-IsAntisymmetric}
+use Rattle.bsp_store_base.proofs.Std.{◌∙◌, ap, from_entries, insert, List, nat_cmp, nat_cmp-IsAntisymmetric, nat_cmp_total, Option, Some, sym, ℕ}
 use Rattle.bsp_maps.proofs.UndoLemmas.{found, written}
 use Rattle.bsp_store_load.proofs.airline_map.put_at.Goals as goal
 

@@ -1,9 +1,5 @@
-use Rattle.std.proofs.Common.{◌+◌, sym, ap, ◌∙◌, nat_cmp}
-use Rattle.std.specs.FinMap.{from_entries, insert}
-use Rattle.std.proofs.lemmas.List.{take_all}
-use Rattle.bsp_store_base.specs.Airlines.{published_at, with_published}
-use Rattle.bsp_store_base.specs.Columns.{placed}
-use Rattle.bsp_store_base.proofs.AirlineLemmas.{with_published-taken}
+use Rattle.bsp_store_base.proofs.Std.{◌+◌, ◌∙◌, ap, from_entries, insert, nat_cmp, sym, take_all}
+use Rattle.bsp_store_base.proofs.Base.{placed, published_at, with_published, with_published-taken}
 use Rattle.bsp_store_load.proofs.airline_map.put_published.Goals as goal
 
 pub loop-at-preserved : goal.loop-at-preserved

@@ -1,7 +1,5 @@
-use Rattle.std.proofs.Common.{◌≡◌, take, nat_cmp}
-use Rattle.std.specs.FinMap.{from_entries}
-use Rattle.bsp_store_base.specs.Airlines.{with_published}
-use Rattle.bsp_store_base.specs.Columns.{placed}
+use Rattle.bsp_store_base.proofs.Std.{◌≡◌, from_entries, nat_cmp, take}
+use Rattle.bsp_store_base.proofs.Base.{placed, with_published}
 use Rattle.bsp_store_load.proofs.airline_map.put_published.Given as goal
 
 abbrev pub invariant-loop-at : goal.invariant-loop-at

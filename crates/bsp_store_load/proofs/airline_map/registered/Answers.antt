@@ -1,15 +1,8 @@
-use Rattle.std.proofs.Common.{◌≡◌, ℕ, List, map, sym, ap, subst, ◌∙◌, nat_cmp}
-use Rattle.std.specs.Cmp.{nat_cmp_total}
-use Rattle.std.specs.FinMap.{FinMap, empty, from_entries, nat_cmp-IsAntisymmetric}
-use Rattle.std.specs.List.Sorted.{IsStrictlySortedBy}
-use Rattle.std.specs.Map.{keys_of}
-use Rattle.std.specs.Map.Iter.{deref_pair}
-use Rattle.std.proofs.lemmas.Map.Iter.{rest_all, rest_more}
+use Rattle.bsp_store_base.proofs.Std.{◌∙◌, ◌≡◌, ap, deref_pair, empty, FinMap, from_entries, IsStrictlySortedBy, keys_of, List, map, nat_cmp, nat_cmp-IsAntisymmetric, nat_cmp_total, rest_all, rest_more, subst, sym, ℕ}
 use Rattle.sqlite_trees.proofs.ListLemmas.{map-map}
-use Rattle.bsp_maps.proofs.OrderLemmas.{in_order}
-use Rattle.bsp_maps.proofs.UndoLemmas.{written}
+use Rattle.bsp_store_base.proofs.Entries.{in_order, written}
+use Rattle.bsp_store_base.proofs.Base.{registered, unplaced}
 use Rattle.bsp_store_base.specs.declared.airlines.AirlineEntry.{AirlineEntry}
-use Rattle.bsp_store_base.specs.Airlines.{registered, unplaced}
 use Rattle.bsp_store_load.proofs.PutLemmas.{inserted, inserted_all}
 use Rattle.bsp_store_load.proofs.airline_map.registered.Goals as goal
 

@@ -1,7 +1,4 @@
-use Rattle.std.proofs.Common.{sym, ap, ◌∙◌}
-use Rattle.std.specs.Prelude.{option_map}
-use Rattle.std.specs.Cmp.{nat_cmp_total}
-use Rattle.std.specs.FinMap.{from_entries, nat_cmp-IsAntisymmetric}
+use Rattle.bsp_store_base.proofs.Std.{◌∙◌, ap, from_entries, nat_cmp-IsAntisymmetric, nat_cmp_total, option_map, sym}
 use Rattle.bsp_maps.proofs.UndoLemmas.{written}
 use Rattle.bsp_store_load.specs.Stored.{with_pair}
 use Rattle.bsp_store_load.proofs.airlines.note_place.Goals as goal

@@ -1,6 +1,4 @@
-use Rattle.std.proofs.Common.{take, sym, ap, ◌∙◌, nat_cmp}
-use Rattle.std.specs.FinMap.{empty, from_entries}
-use Rattle.std.proofs.lemmas.List.{take_all}
+use Rattle.bsp_store_base.proofs.Std.{◌∙◌, ap, empty, from_entries, nat_cmp, sym, take, take_all}
 use Rattle.bsp_maps.proofs.PickLemmas.{if_ok}
 use Rattle.bsp_store_base.proofs.Placing.{one_more}
 use Rattle.bsp_store_load.specs.Stored.{gathered, placed_code, with_pair}

@@ -1,5 +1,4 @@
-use Rattle.std.proofs.Common.{◌≡◌, take, nat_cmp}
-use Rattle.std.specs.FinMap.{empty, from_entries}
+use Rattle.bsp_store_base.proofs.Std.{◌≡◌, empty, from_entries, nat_cmp, take}
 use Rattle.bsp_store_load.specs.Stored.{gathered, placed_code}
 use Rattle.bsp_store_load.proofs.airlines.published_in.Given as goal
 

@@ -1,7 +1,4 @@
-use Rattle.std.proofs.Common.{sym, ap, subst, ◌∙◌}
-use Rattle.std.specs.Cmp.{nat_cmp_total}
-use Rattle.std.specs.FinMap.{nat_cmp-IsAntisymmetric}
-use Rattle.std.specs.Prelude.{option_map}
+use Rattle.bsp_store_base.proofs.Std.{◌∙◌, ap, nat_cmp-IsAntisymmetric, nat_cmp_total, option_map, subst, sym}
 use Rattle.bsp_rows.specs.Rows.{Rows}
 use Rattle.bsp_memory_rows.specs.Tables.{rows_of}
 use Rattle.bsp_store_load.specs.Formed.{IsRegisteredAirline, OnEach}

@@ -1,10 +1,7 @@
-use Rattle.std.proofs.Common.{take, sym, ap, ◌∙◌}
-use Rattle.std.specs.FinMap.{entries}
-use Rattle.std.proofs.lemmas.List.{take_all}
+use Rattle.bsp_store_base.proofs.Std.{◌∙◌, ap, entries, sym, take, take_all}
 use Rattle.bsp_rows.specs.Rows.{Rows}
 use Rattle.bsp_memory_rows.specs.Tables.{rows_of}
-use Rattle.bsp_store_base.specs.Airlines.{airline_entries}
-use Rattle.bsp_store_base.proofs.Placing.{one_more}
+use Rattle.bsp_store_base.proofs.Base.{airline_entries, one_more}
 use Rattle.bsp_store_load.specs.Stored.{code_token, gathered, with_pair}
 use Rattle.bsp_store_load.proofs.AirlineReads.{tokens_are}
 use Rattle.bsp_store_load.proofs.Gathering.{gathered_last}

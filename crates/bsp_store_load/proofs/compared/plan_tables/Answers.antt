@@ -1,7 +1,4 @@
-use Rattle.std.proofs.Common.{◌≡◌, sym, ap, subst, ◌∙◌}
-use Rattle.std.proofs.lemmas.Bool.{both_ways}
-use Rattle.std.specs.Cmp.{nat_cmp_total}
-use Rattle.std.specs.FinMap.{nat_cmp-IsAntisymmetric}
+use Rattle.bsp_store_base.proofs.Std.{◌∙◌, ◌≡◌, ap, both_ways, nat_cmp-IsAntisymmetric, nat_cmp_total, subst, sym}
 use Rattle.bsp_rows.specs.Rows.{Rows, no_rows}
 use Rattle.bsp_memory_rows.specs.Tables.{IsDerived, rows_of}
 use Rattle.bsp_memory_rows.specs.declared.tables.Tables.{Tables}

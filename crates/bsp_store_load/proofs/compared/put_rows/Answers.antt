@@ -1,5 +1,4 @@
-use Rattle.std.proofs.Common.{◌∙◌}
-use Rattle.std.proofs.lemmas.Bool.{both_ways}
+use Rattle.bsp_store_base.proofs.Std.{◌∙◌, both_ways}
 use Rattle.bsp_memory_rows.specs.Tables.{rows_of}
 use Rattle.bsp_store_load.proofs.AirlineReads.{airlines_read}
 use Rattle.bsp_store_load.proofs.CloseLemmas.{both_alone, plan_and_none, tokens_put}

@@ -1,10 +1,6 @@
-use Rattle.std.proofs.Common.{◌≡◌, ℕ, ◌+◌, ◌<◌, ◌≤◌, List, length, take, get_or, sym, ◌∙◌, arith}
-use Rattle.std.proofs.lemmas.List.{take_all, take_more_same, get_or-map, length-map}
-use Rattle.sqlite_value.specs.declared.value.Value.TheVariants.{Null}
+use Rattle.bsp_store_base.proofs.Std.{◌+◌, ◌<◌, ◌∙◌, ◌≡◌, ◌≤◌, arith, get_or, get_or-map, length, length-map, List, sym, take, take_all, take_more_same, ℕ}
+use Rattle.bsp_store_base.specs.Sqlite.{bound, bound_value, column, Null, owned, Row}
 use Rattle.sqlite_value.specs.declared.value.ValueRef.{ValueRef}
-use Rattle.sqlite_value.specs.Value.{owned}
-use Rattle.sqlite_value.specs.Order.{Row, column}
-use Rattle.sqlite.specs.Values.{bound, bound_value}
 use Rattle.bsp_store_load.proofs.equal.is_row.Goals as goal
 
 -- the columns of a row, one after another

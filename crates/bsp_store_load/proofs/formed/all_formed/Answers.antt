@@ -1,6 +1,4 @@
-use Rattle.std.proofs.Common.{◌+◌, ◌∷◌, drop, sym, ap, subst, ◌∙◌}
-use Rattle.std.specs.List.{AllByRecursion}
-use Rattle.std.proofs.lemmas.List.{at_drop_more, drop_all}
+use Rattle.bsp_store_base.proofs.Std.{◌+◌, ◌∙◌, ◌∷◌, AllByRecursion, ap, at_drop_more, drop, drop_all, subst, sym}
 use Rattle.bsp_store_load.proofs.formed.all_formed.Goals as goal
 
 pub loop-at-preserved : goal.loop-at-preserved

@@ -1,5 +1,4 @@
-use Rattle.std.proofs.Common.{drop}
-use Rattle.std.specs.List.{AllByRecursion}
+use Rattle.bsp_store_base.proofs.Std.{AllByRecursion, drop}
 use Rattle.bsp_store_load.proofs.formed.all_formed.Given as goal
 
 abbrev pub invariant-loop-at : goal.invariant-loop-at

@@ -1,5 +1,4 @@
-use Rattle.std.proofs.Common.{◌∙◌, ap, length, arith}
-use Rattle.std.proofs.lemmas.List.{length-map, length-take}
+use Rattle.bsp_store_base.proofs.Std.{◌∙◌, ap, arith, length, length-map, length-take}
 use Rattle.bsp_store_load.proofs.formed.formed_closed.Goals as goal
 
 pub returns : goal.returns

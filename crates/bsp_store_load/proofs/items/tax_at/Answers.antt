@@ -1,6 +1,5 @@
 use Rattle.std.proofs.Common.{sym, ◌∙◌}
-use Rattle.bsp_maps.proofs.UndoLemmas.{found}
-use Rattle.bsp_rows.proofs.KeyOrders.{item_total}
+use Rattle.bsp_store_base.proofs.Entries.{found, item_total}
 use Rattle.bsp_store_load.proofs.items.tax_at.Goals as goal
 
 pub returns : goal.returns

@@ -1,7 +1,4 @@
-use Rattle.std.proofs.Common.{sym, ap, subst, ◌∙◌}
-use Rattle.std.specs.List.{filter}
-use Rattle.std.specs.Map.Iter.{deref_pair}
-use Rattle.std.proofs.lemmas.Map.Iter.{rest_more, rest_all}
+use Rattle.bsp_store_base.proofs.Std.{◌∙◌, ap, deref_pair, filter, rest_all, rest_more, subst, sym}
 use Rattle.bsp_store_load.proofs.Remaining.{AreLeft, ended, filter_on, filter_past, must_be, some_left, taken}
 use Rattle.bsp_store_load.proofs.listed.are_rows_of.Goals as goal
 

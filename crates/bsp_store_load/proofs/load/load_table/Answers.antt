@@ -1,8 +1,5 @@
 use Rattle.std.proofs.Common.{◌≡◌, rules, [], refl, sym, subst, Some, ◌∙◌}
-use Rattle.sqlite_trees.specs.declared.store.Store.{Ghosts}
-use Rattle.sqlite.specs.Held.{Held, state}
-use Rattle.sqlite.specs.State.{CommitsShowing, HasCleanDisk, Survives}
-use Rattle.sqlite.proofs.StateLemmas.{survives_then}
+use Rattle.bsp_store_base.proofs.Sqlite.{CommitsShowing, Ghosts, HasCleanDisk, Held, state, Survives, survives_then}
 use Rattle.bsp_store_base.specs.Kept.{Spares}
 use Rattle.bsp_store_load.specs.Loading.{IsLoaded}
 use Rattle.bsp_store_load.proofs.Showing.{all_put, begun, commits_nothing, row_left, row_put, spares_of}

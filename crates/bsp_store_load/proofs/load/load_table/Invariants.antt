@@ -1,6 +1,5 @@
 use Rattle.std.proofs.Common.{◌≡◌}
-use Rattle.sqlite.specs.State.{HasCleanDisk, Survives}
-use Rattle.sqlite.specs.Held.{state}
+use Rattle.bsp_store_base.proofs.Sqlite.{HasCleanDisk, state, Survives}
 use Rattle.bsp_store_base.specs.Schema.{our_schema}
 use Rattle.bsp_store_load.proofs.Showing.{IsSoFar}
 use Rattle.bsp_store_load.proofs.load.load_table.Given as goal

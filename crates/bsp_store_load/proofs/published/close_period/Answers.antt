@@ -1,12 +1,6 @@
-use Rattle.std.proofs.Common.{◌≡◌, ℕ, true, Result, Ok, Err, is_ok, refl, sym, ap, subst, ◌∙◌}
-use Rattle.std.proofs.lemmas.Bool.{false≢true}
-use Rattle.std.proofs.lemmas.Option.{none-some}
-use Rattle.std.specs.Prelude.{IsOk}
+use Rattle.bsp_store_base.proofs.Std.{◌∙◌, ◌≡◌, ap, Err, false≢true, is_ok, IsOk, none-some, Ok, refl, Result, subst, sym, true, ℕ}
 use Rattle.sqlite_value.specs.Order.{Row}
-use Rattle.bsp_rows.specs.History.Request.{Close}
-use Rattle.bsp_rows.specs.Period.{Period}
-use Rattle.bsp_rows.specs.Writes.{after_request, request_answer}
-use Rattle.bsp_rows.proofs.MapLemmas.{same_Some}
+use Rattle.bsp_store_base.proofs.Entries.{after_request, Close, Period, request_answer, same_Some}
 use Rattle.bsp_memory_rows.specs.Tables.{rows_of}
 use Rattle.bsp_store_base.specs.Columns.{period_row}
 use Rattle.bsp_store_rows.specs.Reading.{IsPeriodRow}

@@ -1,8 +1,6 @@
-use Rattle.std.proofs.Common.{refl}
-use Rattle.std.proofs.lemmas.Bool.{both_ways}
+use Rattle.bsp_store_base.proofs.Std.{both_ways, refl}
 use Rattle.bsp_memory_rows.specs.Tables.{rows_of}
-use Rattle.bsp_store_base.specs.Columns.{period_row}
-use Rattle.bsp_store_base.specs.Forms.{IsPeriod}
+use Rattle.bsp_store_base.proofs.Base.{IsPeriod, period_row}
 use Rattle.bsp_store_load.specs.Stored.{MayClose, closing}
 use Rattle.bsp_store_load.proofs.CloseLemmas.{plan_alone}
 use Rattle.bsp_store_load.proofs.PutLemmas.{all_gone, begun, gone_on}

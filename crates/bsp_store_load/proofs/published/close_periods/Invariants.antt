@@ -1,8 +1,7 @@
 use Rattle.std.proofs.Common.{◌≡◌, ℕ, List, map}
 use Rattle.bsp_rows.specs.Period.{Period}
 use Rattle.bsp_memory_rows.specs.Tables.{rows_of}
-use Rattle.bsp_store_base.specs.Columns.{period_row}
-use Rattle.bsp_store_base.specs.Forms.{IsPeriod}
+use Rattle.bsp_store_base.proofs.Base.{IsPeriod, period_row}
 use Rattle.bsp_store_load.specs.Loading.{MayAll}
 use Rattle.bsp_store_load.specs.Stored.{ChangesPlan, MayClose, closing}
 use Rattle.bsp_store_load.proofs.PutLemmas.{Goes}

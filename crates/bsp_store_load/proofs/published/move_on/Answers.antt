@@ -1,29 +1,13 @@
-use Rattle.std.proofs.Common.{◌∷◌, ◌≡◌, ℕ, ◌<◌, List, map, length, take, true, false, is_err, sym, ap, ◌∙◌, arith, rules, nat_cmp, zero, suc, ◌+◌, ◌≤◌, Bool, [], Option, Some, Result, refl, subst}
-use Rattle.std.proofs.lemmas.Bool.{both_ways}
-use Rattle.std.proofs.lemmas.Option.{none-some}
-use Rattle.bsp_maps.proofs.PickLemmas.{if_ok}
-use Rattle.std.specs.FinMap.{FinMap}
-use Rattle.bsp_rows.specs.History.{IsReached}
-use Rattle.bsp_rows.specs.History.Request.{Close, SetDay}
-use Rattle.bsp_rows.specs.Published.{Published}
+use Rattle.bsp_store_base.proofs.Std.{[], ◌+◌, ◌<◌, ◌∙◌, ◌∷◌, ◌≡◌, ◌≤◌, AllByRecursion, ap, arith, Bool, both_ways, false, FinMap, is_err, length, length-map, List, map, nat_cmp, none-some, Option, refl, Result, rules, Some, subst, suc, sym, take, take-map, true, zero, ℕ}
+use Rattle.bsp_store_base.proofs.Entries.{after_request, change_or_fault, CivilDay, Close, closed_within, if_ok, is_held, IsReached, Period, plan_left, PlanFault, Published, request_answer, Rows, same_Some, SetDay}
 use Rattle.bsp_rows.specs.SoundPlan.{IsSoundPlan}
 use Rattle.bsp_store_load.specs.Stored.{AreRowsOfPlan, IsFormedPlan, MayClose, closing}
-use Rattle.bsp_rows.specs.Writes.{after_request, request_answer, change_or_fault, is_held, plan_left}
 use Rattle.bsp_memory_rows.specs.Tables.{rows_of}
 use Rattle.bsp_store_load.proofs.CloseLemmas.{closes_all}
-use Rattle.std.specs.List.{AllByRecursion}
-use Rattle.std.proofs.lemmas.List.{length-map, take-map}
 use Rattle.sqlite_value.specs.Order.{Row}
-use Rattle.bsp_rows.specs.CivilDay.{CivilDay}
 use Rattle.bsp_rows.specs.Change.{Change}
 use Rattle.bsp_rows.specs.Standing.{first_codes}
-use Rattle.bsp_rows.specs.Period.{Period}
-use Rattle.bsp_rows.specs.PlanFault.{PlanFault}
-use Rattle.bsp_rows.proofs.SoundLemmas.{closed_within}
-use Rattle.bsp_store_base.specs.Columns.{Meta, meta_rows, period_row, placed}
-use Rattle.bsp_store_base.specs.Forms.{IsMeta, IsPeriod}
-use Rattle.bsp_rows.proofs.MapLemmas.{same_Some}
-use Rattle.bsp_rows.specs.Rows.{Rows}
+use Rattle.bsp_store_base.proofs.Base.{IsMeta, IsPeriod, Meta, meta_rows, period_row, placed}
 use Rattle.bsp_store_load.specs.Loading.{MayAll, after_all}
 use Rattle.bsp_store_load.specs.declared.plan_rows.PlanRows.{PlanRows}
 use Rattle.bsp_store_load.proofs.PlanReads.{length-placed}

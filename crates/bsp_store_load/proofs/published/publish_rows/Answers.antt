@@ -1,25 +1,11 @@
-use Rattle.std.proofs.Common.{length, ◌==◌, sym, ap, subst, ◌∙◌, ◌≡◌, ℕ, Bool, true, false, List, [], ◌∷◌, map, Option, Some, None, Result, Ok, is_ok, refl, arith, nat_cmp}
+use Rattle.bsp_store_base.proofs.Std.{[], ◌==◌, ◌∙◌, ◌∷◌, ◌≡◌, ap, arith, Bool, entries, false, FinMap, is_ok, IsSomeAnd, length, List, map, nat_cmp, nil_from_length, None, Ok, Option, refl, Result, Some, subst, sym, true, ℕ}
 use Rattle.bsp_memory_rows.specs.Tables.{rows_of}
-use Rattle.std.specs.Prelude.{IsSomeAnd}
-use Rattle.std.specs.FinMap.{FinMap, entries}
-use Rattle.std.proofs.lemmas.List.{nil_from_length}
 use Rattle.sqlite_value.specs.Order.{Row}
 use Rattle.bsp_rows.specs.Change.{Change}
-use Rattle.bsp_rows.specs.History.{IsReached, IsTextOf, outcome}
-use Rattle.bsp_rows.specs.History.Request.{Close, Publish, SetDay}
-use Rattle.bsp_rows.specs.Published.{Published, opening}
-use Rattle.bsp_rows.specs.SoundPlan.{IsSoundPlan}
-use Rattle.bsp_rows.specs.Period.{Period}
+use Rattle.bsp_store_base.proofs.Entries.{after_request, change_or_fault, Close, closed_within, is_held, IsReached, IsSoundPlan, IsTextOf, made_again, opening, outcome, Period, plan_left, PlanFault, Publish, Published, request_answer, Rows, SetDay, Terms}
 use Rattle.bsp_rows.specs.PlanText.{PlanText}
-use Rattle.bsp_rows.specs.Terms.{Terms}
-use Rattle.bsp_rows.specs.PlanFault.{PlanFault}
-use Rattle.bsp_rows.proofs.MadeLemmas.{made_again}
-use Rattle.bsp_rows.proofs.SoundLemmas.{closed_within}
+use Rattle.bsp_store_base.proofs.Base.{airline_entries, terms_rows}
 use Rattle.bsp_store_base.specs.declared.airlines.AirlineEntry.{AirlineEntry}
-use Rattle.bsp_store_base.specs.Airlines.{airline_entries}
-use Rattle.bsp_store_base.specs.Columns.{terms_rows}
-use Rattle.bsp_rows.specs.Rows.{Rows}
-use Rattle.bsp_rows.specs.Writes.{after_request, change_or_fault, is_held, plan_left, request_answer}
 use Rattle.bsp_store_load.specs.Stored.{AreRowsOfPlan, IsFormedPlan}
 use Rattle.bsp_store_load.specs.declared.plan_rows.PlanRows.{PlanRows}
 use Rattle.bsp_store_load.proofs.PlanReads.{found_is, not_none}

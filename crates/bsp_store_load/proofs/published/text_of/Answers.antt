@@ -1,11 +1,7 @@
-use Rattle.std.proofs.Common.{rules, ◌≡◌, List, map, refl, ◌∙◌}
-use Rattle.std.specs.List.{AllByRecursion}
+use Rattle.bsp_store_base.proofs.Std.{◌∙◌, ◌≡◌, AllByRecursion, List, map, refl, rules}
 use Rattle.sqlite_value.specs.Order.{Row}
-use Rattle.bsp_rows.specs.CommissionTax.{CommissionTax}
-use Rattle.bsp_rows.specs.Period.{Period}
-use Rattle.bsp_rows.specs.Rate.{Rate}
-use Rattle.bsp_store_base.specs.Columns.{commission_tax_row, period_row, placed, rate_row}
-use Rattle.bsp_store_base.specs.Forms.{IsCommissionTax, IsPeriod, IsRate}
+use Rattle.bsp_store_base.specs.Entries.{CommissionTax, Period, Rate}
+use Rattle.bsp_store_base.proofs.Base.{commission_tax_row, IsCommissionTax, IsPeriod, IsRate, period_row, placed, rate_row}
 use Rattle.bsp_store_rows.specs.Reading.{IsCommissionTaxRow, IsPeriodRow, IsRateRow}
 use Rattle.bsp_store_load.specs.Stored.{AreReadAs}
 use Rattle.bsp_store_load.proofs.PlanReads.{found_is, not_none, placed_read}

@@ -1,12 +1,8 @@
-use Rattle.std.proofs.Common.{sym, ap, ◌∙◌}
-use Rattle.std.specs.FinMap.{entries, same_entries_map}
-use Rattle.std.specs.List.{filter_map}
+use Rattle.bsp_store_base.proofs.Std.{◌∙◌, ap, entries, filter_map, same_entries_map, sym}
 use Rattle.bsp_maps.proofs.ContentLemmas.{of_content}
-use Rattle.bsp_maps.proofs.OrderLemmas.{in_order}
+use Rattle.bsp_store_base.proofs.Entries.{in_order, item_total}
 use Rattle.bsp_memory_tables.specs.ItemTables.{item_rows}
-use Rattle.bsp_rows.proofs.KeyOrders.{item_total}
-use Rattle.bsp_store_base.specs.Seconds.{second_entry}
-use Rattle.bsp_store_base.proofs.SecondLemmas.{entries-seconds_of, ticket_total}
+use Rattle.bsp_store_base.proofs.Base.{entries-seconds_of, second_entry, ticket_total}
 use Rattle.bsp_store_load.proofs.seconds.are_seconds.Goals as goal
 
 pub returns : goal.returns

@@ -1,7 +1,4 @@
-use Rattle.std.proofs.Common.{sym, ◌∙◌}
-use Rattle.std.proofs.lemmas.Bool.{both_ways, false≢true}
-use Rattle.std.specs.Map.Iter.{deref_pair}
-use Rattle.std.proofs.lemmas.Map.Iter.{rest_more, rest_all}
+use Rattle.bsp_store_base.proofs.Std.{◌∙◌, both_ways, deref_pair, false≢true, rest_all, rest_more, sym}
 use Rattle.bsp_store_base.specs.Seconds.{second_entry}
 use Rattle.bsp_store_load.proofs.EntryLemmas.{all_left, ended, must_be, none_for, passed_over, taken}
 use Rattle.bsp_store_load.proofs.seconds.are_seconds_of.Goals as goal

@@ -1,5 +1,4 @@
-use Rattle.std.proofs.Common.{sym, ◌∙◌}
-use Rattle.std.specs.List.{filter}
+use Rattle.bsp_store_base.proofs.Std.{◌∙◌, filter, sym}
 use Rattle.bsp_memory_rows.specs.Lookups.{has_rows}
 use Rattle.bsp_store_base.specs.Columns.{tally_row}
 use Rattle.bsp_store_load.proofs.TallyLemmas.{all_have, used_are}

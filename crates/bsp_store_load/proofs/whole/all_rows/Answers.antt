@@ -1,20 +1,9 @@
 use Rattle.bsp_store_load.specs.Whole.{part_of}
 use Rattle.std.proofs.Common.{◌≡◌, [], List, ℕ, false, Vec, Global, Result, Ok, Err, IfOk, OnOk, sym, subst, inl, inr, arith}
-use Rattle.sqlite_value.specs.Order.{Row}
-use Rattle.sqlite_trees.specs.declared.store.Store.{Ghosts}
-use Rattle.sqlite.specs.declared.error.Error.{Error}
+use Rattle.bsp_store_base.proofs.Sqlite.{CommitsShowing, Error, Ghosts, HasCleanDisk, Held, never_commits, Row, Shown, state, Survives, understood}
 use Rattle.sqlite.specs.Given.{IsPlain}
-use Rattle.sqlite.specs.Held.{Held, state}
-use Rattle.sqlite.specs.Listing.{understood}
-use Rattle.sqlite.specs.State.{CommitsShowing, HasCleanDisk, Shown, Survives}
-use Rattle.sqlite.proofs.Callers.{never_commits}
 use Rattle.bsp_maps.proofs.PickLemmas.{if_ok}
-use Rattle.bsp_store_base.specs.Schema.{our_schema}
-use Rattle.bsp_store_base.specs.Content.{Content}
-use Rattle.bsp_store_base.specs.Kept.{Part, Reads}
-use Rattle.bsp_store_base.specs.Shows.{AreAllOf, ShowsAll, ShowsTable}
-use Rattle.bsp_store_base.proofs.Held.{unchanged_by}
-use Rattle.bsp_store_base.proofs.Opening.{whole_shown}
+use Rattle.bsp_store_base.proofs.Base.{AreAllOf, Content, our_schema, Part, Reads, ShowsAll, ShowsTable, unchanged_by, whole_shown}
 use Rattle.bsp_store_load.proofs.whole.all_rows.Goals as goal
 
 module _ (part : Part Content) (text : List ℕ) (shows : ShowsTable part text) {S : Type 0} (g : Ghosts S) (old new : Held S) where

@@ -1,5 +1,4 @@
-use Rattle.std.proofs.Common.{◌≡◌, true, sym, subst, ◌∙◌}
-use Rattle.std.proofs.lemmas.Bool.{false≢true}
+use Rattle.bsp_store_base.proofs.Std.{◌∙◌, ◌≡◌, false≢true, subst, sym, true}
 use Rattle.bsp_store_load.specs.Contents.{content_now}
 use Rattle.bsp_store_load.specs.MemoryRowsTables.{rows_of}
 use Rattle.bsp_store_load.specs.Tables.{Tables}

@@ -1,8 +1,5 @@
 -- What is between the two ends is the name of the table.
-use Rattle.std.proofs.Common.{codes}
-use Rattle.std.proofs.lemmas.Bool.Decides.{Decides-eqb}
-use Rattle.std.proofs.lemmas.List.{append_cancel_left}
-use Rattle.std.proofs.lemmas.Slice.Eq.{slice_eq-Decides, strip_prefix_is, strip_suffix_is}
+use Rattle.bsp_store_base.proofs.Std.{append_cancel_left, codes, Decides-eqb, slice_eq-Decides, strip_prefix_is, strip_suffix_is}
 use Rattle.bsp_store_open.proofs.Schemas.{named}
 use Rattle.bsp_store_open.proofs.old_versions.is_key_name.Goals as goal
 

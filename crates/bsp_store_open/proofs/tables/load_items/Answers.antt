@@ -1,5 +1,4 @@
-use Rattle.std.proofs.Common.{ap}
-use Rattle.std.specs.FinMap.{from_entries}
+use Rattle.bsp_store_base.proofs.Std.{ap, from_entries}
 use Rattle.bsp_book.specs.Rows.{item_cmp}
 use Rattle.bsp_store_load.specs.Seconds.{ticket_cmp}
 use Rattle.bsp_store_open.proofs.LoadedLemmas.{no_seconds_read, no_taxes_read, seconds_read, taxes_read}

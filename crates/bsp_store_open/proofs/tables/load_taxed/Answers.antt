@@ -1,5 +1,4 @@
-use Rattle.std.proofs.Common.{refl, sym, ap, ◌∙◌}
-use Rattle.std.specs.FinMap.{from_entries}
+use Rattle.bsp_store_base.proofs.Std.{◌∙◌, ap, from_entries, refl, sym}
 use Rattle.bsp_book.specs.Rows.{item_cmp}
 use Rattle.bsp_store_load.specs.ItemTables.{item_rows}
 use Rattle.bsp_store_load.specs.Seconds.{seconds_of}

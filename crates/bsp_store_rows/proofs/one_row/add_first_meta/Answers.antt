@@ -1,5 +1,4 @@
-use Rattle.std.proofs.Common.{IsTrue, ◌∙◌}
-use Rattle.std.proofs.lemmas.Bool.{true_from_ne_false}
+use Rattle.bsp_store_base.proofs.Std.{◌∙◌, IsTrue, true_from_ne_false}
 use Rattle.sqlite.specs.Held.{state}
 use Rattle.bsp_store_base.specs.Columns.{Meta}
 use Rattle.bsp_store_rows.proofs.MetaTable.{adds, adds_sound}

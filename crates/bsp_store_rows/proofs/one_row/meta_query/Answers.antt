@@ -1,7 +1,6 @@
 use Rattle.std.proofs.Common.{refl, []}
-use Rattle.bsp_store_base.proofs.Opening.{table_shown}
+use Rattle.bsp_store_base.proofs.Base.{meta_part, table_shown}
 use Rattle.bsp_store_rows.proofs.MetaTable.{all_text, names, all_is}
-use Rattle.bsp_store_base.specs.Content.{meta_part}
 use Rattle.bsp_store_rows.proofs.Orders.{meta_rise}
 use Rattle.bsp_store_rows.proofs.one_row.meta_query.Goals as goal
 

@@ -1,7 +1,6 @@
 use Rattle.std.proofs.Common.{refl, []}
-use Rattle.bsp_store_base.proofs.Opening.{table_shown}
+use Rattle.bsp_store_base.proofs.Base.{table_shown, terms_part}
 use Rattle.bsp_store_rows.proofs.MetaTable.{all_terms_is, all_terms_text}
-use Rattle.bsp_store_base.specs.Content.{terms_part}
 use Rattle.bsp_store_rows.proofs.Orders.{terms_rise}
 use Rattle.bsp_store_rows.proofs.one_row.terms_query.Goals as goal
 

@@ -1,6 +1,5 @@
 use Rattle.std.proofs.Common.{ap, ◌∙◌}
-use Rattle.bsp_store_base.specs.Columns.{tax_row}
-use Rattle.bsp_store_base.proofs.MapTables.{ran_with}
+use Rattle.bsp_store_base.proofs.Base.{ran_with, tax_row}
 use Rattle.bsp_store_items.proofs.item_taxes.ItemTaxesKeyedTableItemKeyItem.run_on_row.Goals as goal
 
 pub returns : goal.returns

@@ -1,6 +1,5 @@
 use Rattle.std.proofs.Common.{refl}
-use Rattle.sqlite_tied.specs.Compute.{everything}
-use Rattle.sqlite.specs.Listing.{understood}
+use Rattle.bsp_store_base.proofs.Sqlite.{everything, understood}
 use Rattle.bsp_store_base.proofs.MapTables.{shows_all}
 use Rattle.bsp_store_items.specs.Tables.{item_taxes_map}
 use Rattle.bsp_store_items.proofs.Tables.{item_taxes_lawful}

@@ -1,9 +1,7 @@
-use Rattle.std.proofs.Common.{rules, ◌≡◌, refl, sym, ap, subst, ◌∙◌}
-use Rattle.std.specs.FinMap.{get}
+use Rattle.bsp_store_base.proofs.Std.{◌∙◌, ◌≡◌, ap, get, refl, rules, subst, sym}
 use Rattle.bsp_rows.specs.Writes.{with_agent_token}
 use Rattle.bsp_memory_rows.specs.Tables.{rows_of}
-use Rattle.bsp_store_base.specs.Columns.{agent_row}
-use Rattle.bsp_store_base.specs.Forms.{IsAgentEntry}
+use Rattle.bsp_store_base.proofs.Base.{agent_row, IsAgentEntry}
 use Rattle.bsp_store_rows.specs.CallerReading.{agent_in}
 use Rattle.bsp_store_rows.proofs.CallerBack.{agent_back}
 use Rattle.bsp_store_load.specs.Formed.{AreFormed}

@@ -1,16 +1,12 @@
-use Rattle.std.proofs.Common.{◌≡◌, ℕ, refl, sym, ap, subst, ◌∙◌, Option, Some}
-use Rattle.std.specs.FinMap.{get}
-use Rattle.bsp_rows.specs.Rows.{range_of}
-use Rattle.bsp_rows.specs.Writes.{with_range}
-use Rattle.bsp_rows.specs.declared.keys.RangeKey.{RangeKey}
+use Rattle.bsp_store_base.proofs.Std.{◌∙◌, ◌≡◌, ap, get, Option, refl, Some, subst, sym, ℕ}
+use Rattle.bsp_store_base.proofs.Entries.{range_of, RangeKey, with_range}
 use Rattle.bsp_memory_rows.specs.Tables.{rows_of}
 use Rattle.bsp_memory_tables.specs.RangeTables.{range_rows}
-use Rattle.bsp_store_base.specs.Columns.{stock_row}
+use Rattle.bsp_store_base.proofs.Base.{IsRangeEntry, stock_row}
 use Rattle.bsp_store_load.specs.Formed.{AreFormed}
 use Rattle.bsp_store_load.proofs.FormedContent.{range_formed}
 use Rattle.bsp_store_load.proofs.RowReads.{found_none, none_found, not_none, own_is, not_refused}
 use Rattle.sqlite_value.specs.Order.{Row}
-use Rattle.bsp_store_base.specs.Forms.{IsRangeEntry}
 use Rattle.bsp_store_rows.specs.CallerReading.{range_in}
 use Rattle.bsp_store_rows.proofs.CallerBack.{range_back}
 use Rattle.bsp_store_load.proofs.callers.RangesStoredTableRangeKeyDocNumberTables.put.Goals as goal

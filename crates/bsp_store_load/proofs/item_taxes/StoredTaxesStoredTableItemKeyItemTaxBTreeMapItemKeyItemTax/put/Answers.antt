@@ -1,9 +1,7 @@
-use Rattle.std.proofs.Common.{ap, ◌∙◌, refl}
-use Rattle.std.specs.FinMap.{from_entries, get, insert}
-use Rattle.bsp_rows.specs.Rows.{item_cmp}
-use Rattle.bsp_rows.specs.declared.keys.ItemKey.{ItemKey}
+use Rattle.bsp_store_base.proofs.Std.{◌∙◌, ap, from_entries, get, insert, refl}
+use Rattle.bsp_store_base.proofs.Entries.{item_cmp, ItemKey}
+use Rattle.bsp_store_base.proofs.Base.{tax_row}
 use Rattle.bsp_store_base.specs.declared.taxes.ItemTax.{ItemTax}
-use Rattle.bsp_store_base.specs.Columns.{tax_row}
 use Rattle.bsp_store_items.specs.TaxReading.{item_tax_in}
 use Rattle.bsp_store_items.proofs.TaxBack.{item_tax_back}
 use Rattle.bsp_store_load.proofs.EntryLemmas.{none_there, put_told}

@@ -1,21 +1,8 @@
-use Rattle.std.proofs.Common.{◌≡◌, Some, sym, ◌∙◌, Option, None, IsTrue, ap, subst}
-use Rattle.std.proofs.lemmas.Option.{none-some}
-use Rattle.std.specs.FinMap.{FinMap, get}
-use Rattle.bsp_rows.specs.Rows.{item_cmp, HasNumberKey, key_of}
-use Rattle.bsp_rows.proofs.MapLemmas.{same_Some}
-use Rattle.bsp_store_base.specs.Seconds.{ticket_cmp}
-use Rattle.bsp_store_base.specs.Taxes.{tax_with}
-use Rattle.std.specs.Prelude.{SomeIff}
-use Rattle.sqlite_value.specs.declared.value.Value.TheVariants.{Int}
-use Rattle.sqlite_value.specs.Order.{Row, column}
-use Rattle.bsp_rows.specs.CivilDay.{CivilDay, is_day}
-use Rattle.bsp_rows.specs.Days.{day_number}
-use Rattle.bsp_rows.specs.GroupValues.{second_of}
-use Rattle.bsp_rows.specs.Item.{Item}
-use Rattle.bsp_rows.specs.ReportedDocument.{ReportedDocument}
-use Rattle.bsp_rows.specs.declared.keys.ItemKey.{ItemKey}
-use Rattle.bsp_store_base.specs.Columns.{item_row}
+use Rattle.bsp_store_base.proofs.Std.{◌∙◌, ◌≡◌, ap, FinMap, get, IsTrue, None, none-some, Option, Some, SomeIff, subst, sym}
+use Rattle.bsp_store_base.proofs.Entries.{CivilDay, day_number, HasNumberKey, is_day, Item, item_cmp, ItemKey, key_of, ReportedDocument, same_Some, second_of}
+use Rattle.bsp_store_base.proofs.Base.{item_row, tax_with, ticket_cmp}
 use Rattle.bsp_store_base.specs.declared.taxes.ItemTax.{ItemTax}
+use Rattle.bsp_store_base.proofs.Sqlite.{column, Int, Row}
 use Rattle.bsp_store_items.specs.Reading.{item_in, key_in}
 use Rattle.bsp_store_items.proofs.Back.{item_back, key_back}
 use Rattle.bsp_store_load.specs.Beside.{IsStoredItem, second_at}

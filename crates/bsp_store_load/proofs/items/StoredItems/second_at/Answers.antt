@@ -1,10 +1,7 @@
-use Rattle.std.proofs.Common.{sym, ap, ◌∙◌}
-use Rattle.std.specs.Prelude.{option_and_then}
-use Rattle.std.specs.FinMap.{from_entries, get}
+use Rattle.bsp_store_base.proofs.Std.{◌∙◌, ap, from_entries, get, option_and_then, sym}
 use Rattle.bsp_maps.proofs.UndoLemmas.{found}
-use Rattle.bsp_store_base.specs.Seconds.{ticket_cmp}
+use Rattle.bsp_store_base.proofs.Base.{ticket_cmp, ticket_total}
 use Rattle.bsp_store_base.specs.declared.tickets.TicketKey.{TicketKey}
-use Rattle.bsp_store_base.proofs.SecondLemmas.{ticket_total}
 use Rattle.bsp_store_load.proofs.items.StoredItems.second_at.Goals as goal
 
 pub returns : goal.returns

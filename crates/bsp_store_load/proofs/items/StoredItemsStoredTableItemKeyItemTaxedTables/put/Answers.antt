@@ -1,10 +1,5 @@
-use Rattle.std.proofs.Common.{◌≡◌, sym, ap, subst, ◌∙◌}
-use Rattle.bsp_maps.proofs.PickLemmas.{if_ok}
-use Rattle.std.specs.Prelude.{IfSome}
-use Rattle.std.specs.FinMap.{from_entries}
-use Rattle.bsp_rows.specs.Item.{Item}
-use Rattle.bsp_rows.specs.Rows.{item_cmp}
-use Rattle.bsp_rows.specs.declared.keys.ItemKey.{ItemKey}
+use Rattle.bsp_store_base.proofs.Std.{◌∙◌, ◌≡◌, ap, from_entries, IfSome, subst, sym}
+use Rattle.bsp_store_base.proofs.Entries.{if_ok, Item, item_cmp, ItemKey}
 use Rattle.bsp_memory_rows.specs.Tables.{rows_of}
 use Rattle.bsp_store_base.specs.Columns.{item_row}
 use Rattle.bsp_store_load.specs.Beside.{IsAwaited, IsKeyed, Taxed, kept_tax}

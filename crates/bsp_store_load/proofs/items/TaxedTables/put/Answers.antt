@@ -1,8 +1,5 @@
-use Rattle.std.proofs.Common.{◌≡◌, refl, sym, ap, subst, ◌∙◌}
-use Rattle.std.specs.FinMap.{get}
-use Rattle.bsp_maps.proofs.UndoLemmas.{taken}
-use Rattle.bsp_rows.specs.declared.keys.ItemKey.{ItemKey}
-use Rattle.bsp_rows.proofs.KeyOrders.{item_exact, item_total}
+use Rattle.bsp_store_base.proofs.Std.{◌∙◌, ◌≡◌, ap, get, refl, subst, sym}
+use Rattle.bsp_store_base.proofs.Entries.{item_exact, item_total, ItemKey, taken}
 use Rattle.bsp_memory_rows.specs.Tables.{rows_of}
 use Rattle.bsp_memory_tables.specs.ItemTables.{item_rows}
 use Rattle.bsp_store_load.specs.Formed.{AreFormed, IsFormedItem}

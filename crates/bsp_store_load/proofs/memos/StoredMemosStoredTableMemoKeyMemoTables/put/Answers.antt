@@ -1,22 +1,13 @@
-use Rattle.std.proofs.Common.{rules, ◌≡◌, refl, sym, ap, subst, ◌∙◌, true, Option, Some, None}
-use Rattle.std.proofs.lemmas.Bool.{both_ways}
-use Rattle.std.specs.FinMap.{get}
-use Rattle.sqlite.specs.Values.{bound}
-use Rattle.bsp_rows.specs.Rows.{memo_key}
-use Rattle.bsp_rows.specs.Writes.{with_memo}
-use Rattle.bsp_rows.specs.declared.keys.MemoKey.{MemoKey}
+use Rattle.bsp_store_base.proofs.Std.{◌∙◌, ◌≡◌, ap, both_ways, get, None, Option, refl, rules, Some, subst, sym, true}
+use Rattle.bsp_store_base.proofs.Sqlite.{bound, Row}
+use Rattle.bsp_store_base.proofs.Entries.{is_memo, memo_key, MemoFields, MemoKey, same_Some, with_memo}
 use Rattle.bsp_memory_rows.specs.Tables.{rows_of}
-use Rattle.bsp_store_base.specs.Columns.{memo_row}
+use Rattle.bsp_store_base.proofs.Base.{IsMemoEntry, memo_row}
 use Rattle.bsp_store_load.specs.Loading.{has_real}
 use Rattle.bsp_store_load.proofs.PlainRows.{plain_memo}
 use Rattle.bsp_store_load.specs.Formed.{AreFormed, IsFormedMemo}
 use Rattle.bsp_store_load.proofs.FormedContent.{memo_formed}
 use Rattle.bsp_store_load.proofs.RowReads.{found_none, none_found}
-use Rattle.sqlite_value.specs.Order.{Row}
-use Rattle.bsp_rows.specs.Memos.{is_memo}
-use Rattle.bsp_rows.specs.MemoFields.{MemoFields}
-use Rattle.bsp_rows.proofs.MapLemmas.{same_Some}
-use Rattle.bsp_store_base.specs.Forms.{IsMemoEntry}
 use Rattle.bsp_store_rows.specs.MemoReading.{IsMemoIn}
 use Rattle.bsp_store_rows.proofs.MemoBack.{memo_seen}
 use Rattle.bsp_store_load.proofs.memos.StoredMemosStoredTableMemoKeyMemoTables.put.Goals as goal

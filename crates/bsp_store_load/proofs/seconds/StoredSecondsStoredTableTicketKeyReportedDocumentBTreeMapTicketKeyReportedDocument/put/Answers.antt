@@ -1,9 +1,7 @@
-use Rattle.std.proofs.Common.{ap, ◌∙◌, refl}
-use Rattle.std.specs.FinMap.{from_entries, get, insert}
-use Rattle.bsp_store_base.specs.Seconds.{ticket_cmp}
+use Rattle.bsp_store_base.proofs.Std.{◌∙◌, ap, from_entries, get, insert, refl}
+use Rattle.bsp_store_base.proofs.Base.{second_row, ticket_cmp}
 use Rattle.bsp_store_base.specs.declared.tickets.TicketKey.{TicketKey}
 use Rattle.bsp_rows.specs.ReportedDocument.{ReportedDocument}
-use Rattle.bsp_store_base.specs.Columns.{second_row}
 use Rattle.bsp_store_items.specs.TaxReading.{second_row_in}
 use Rattle.bsp_store_items.proofs.TaxBack.{second_back}
 use Rattle.bsp_store_load.proofs.EntryLemmas.{none_there, put_told}

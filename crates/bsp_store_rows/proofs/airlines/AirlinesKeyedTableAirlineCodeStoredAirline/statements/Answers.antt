@@ -1,6 +1,5 @@
 use Rattle.std.proofs.Common.{refl}
-use Rattle.sqlite_tied.specs.Compute.{everything}
-use Rattle.sqlite.specs.Listing.{understood}
+use Rattle.bsp_store_base.proofs.Sqlite.{everything, understood}
 use Rattle.bsp_store_rows.specs.Tables.{airlines_map}
 use Rattle.bsp_store_rows.proofs.Tables.{airlines_lawful}
 use Rattle.bsp_store_rows.proofs.Orders.{airlines_rise, meant}

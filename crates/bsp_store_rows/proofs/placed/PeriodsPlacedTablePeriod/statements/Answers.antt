@@ -1,6 +1,5 @@
 use Rattle.std.proofs.Common.{refl}
-use Rattle.sqlite_tied.specs.Compute.{everything}
-use Rattle.sqlite.specs.Listing.{understood}
+use Rattle.bsp_store_base.proofs.Sqlite.{everything, understood}
 use Rattle.bsp_store_base.proofs.Orders.{place_order}
 use Rattle.bsp_store_rows.specs.Tables.{periods_list}
 use Rattle.bsp_store_rows.proofs.PlacedTables.{meant}

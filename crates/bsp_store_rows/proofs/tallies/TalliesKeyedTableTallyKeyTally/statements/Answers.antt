@@ -1,6 +1,5 @@
 use Rattle.std.proofs.Common.{refl}
-use Rattle.sqlite_tied.specs.Compute.{everything}
-use Rattle.sqlite.specs.Listing.{understood}
+use Rattle.bsp_store_base.proofs.Sqlite.{everything, understood}
 use Rattle.bsp_store_rows.specs.Tables.{tallies_map}
 use Rattle.bsp_store_rows.proofs.Tables.{tallies_lawful}
 use Rattle.bsp_store_rows.proofs.Orders.{tallies_rise, meant}
