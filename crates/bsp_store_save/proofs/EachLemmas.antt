@@ -1,23 +1,11 @@
 -- The table of a content after each key that was written is brought up to date.
-use Rattle.std.proofs.Common.{◌≡◌, Bool, true, false, cond, List, [], ◌∷◌, map, is_some, Option, Some, None, refl, sym, ap, ◌∙◌, subst, Ordering, Less, is_eq}
-use Rattle.std.specs.Prelude.{unwrap_or}
-use Rattle.std.specs.List.{AllByRecursion}
-use Rattle.std.specs.Ordering.{eq_by_cmp, ordering_reverse}
-use Rattle.std.specs.Option.{option_flatten}
-use Rattle.std.specs.Cmp.{IsTotalOrder, tied_itself}
-use Rattle.std.specs.FinMap.{FinMap, contains_key-keys, entries, find, get, get-entries, same_map}
-use Rattle.sqlite.specs.Held.{Held}
-use Rattle.sqlite_trees.specs.Tree.{IsAscending}
-use Rattle.sqlite_trees.specs.declared.store.Store.{Ghosts}
-use Rattle.sqlite_trees.proofs.ListLemmas.{all_both, all_weaker}
+use Rattle.bsp_store_base.proofs.Std.{[], ◌∙◌, ◌∷◌, ◌≡◌, AllByRecursion, ap, Bool, cond, contains_key-keys, entries, eq_by_cmp, false, find, FinMap, get, get-entries, is_eq, is_some, IsTotalOrder, Less, List, map, None, Option, option_flatten, Ordering, ordering_reverse, refl, same_map, Some, sym, tied_itself, true, unwrap_or}
+use Rattle.bsp_store_base.proofs.Sqlite.{all_both, all_weaker, IsAscending}
 use Rattle.bsp_maps.specs.Undo.{IsEarlier}
 use Rattle.bsp_maps.proofs.PresentLemmas.{flat}
-use Rattle.bsp_store_load.specs.Synced.{synced, with_value}
+use Rattle.bsp_store_base.proofs.Base.{Content, synced, with_value}
 use Rattle.bsp_store_load.proofs.Syncing.{get-synced, get-with_value}
 use Rattle.bsp_store_load.proofs.Rising.{entries_rise}
-use Rattle.bsp_store_load.specs.Calls.{Changes, GivesUpIf}
-use Rattle.bsp_store_load.specs.Content.{Content, form}
-use Rattle.bsp_store_load.specs.Kept.{IsInside, HasContents}
 use Rattle.bsp_store_save.specs.Each.{AreThere, with_each}
 use Rattle.bsp_store_save.proofs.Followed.{Followed, has_row, set}
 
@@ -71,7 +59,7 @@ module _ {K V F : Type 0} {R : K → K → Ordering} (t : Followed K V F R) (raw
       get-synced t.total (map (λ e. e.0) (entries olds)) raw was q
       ∙ choose _ (get raw q) (get was q) (λ none. is q ∙ ap (λ v. unwrap_or v (get raw q)) (no_value (get olds q) (contains_key-keys olds q ∙ none))))
 
-  all_set : (c : Content) → t.field c ≡ t.of was → with_each (set t) (get raw) (entries olds) c ≡ t.put (t.of raw) c
+  pub all_set : (c : Content) → t.field c ≡ t.of was → with_each (set t) (get raw) (entries olds) c ≡ t.put (t.of raw) c
   all_set c had = each (entries olds) was c had ∙ ap (λ m. t.put (t.of m) c) up_to_date
 
   -- ---- which keys have a row
@@ -91,13 +79,3 @@ module _ {K V F : Type 0} {R : K → K → Ordering} (t : Followed K V F R) (raw
 
   pub are_there : (c : Content) → t.field c ≡ t.of was → AreThere (set t) (get raw) (has_row t) t.rows (entries olds) c
   are_there c had = all_there (entries olds) (entries_rise R olds) was c had at_first
-
-  -- ---- the calls
-
-  module _ {S : Type 0} (g : Ghosts S) (old new : Held S) where
-    pub saved : Changes g old new (AreThere (set t) (get raw) (has_row t) t.rows (entries olds)) (with_each (set t) (get raw) (entries olds)) → Changes g old new (λ c. t.field c ≡ t.of was) (t.put (t.of raw))
-    saved changes now last a b had stands inside =
-        subst (λ c. HasContents form g new c last a b × IsInside form g new) (all_set now had) (changes now last a b (are_there now had) stands inside)
-
-    pub not_saved : GivesUpIf g old new (AreThere (set t) (get raw) (has_row t) t.rows (entries olds)) → GivesUpIf g old new (λ c. t.field c ≡ t.of was)
-    not_saved fails now last a b had stands inside = fails now last a b (are_there now had) stands inside

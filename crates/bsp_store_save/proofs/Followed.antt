@@ -1,10 +1,6 @@
 -- A table of a content that follows from a map in memory.
-use Rattle.std.proofs.Common.{◌≡◌, Bool, true, false, cond, Option, refl, sym, ap, ◌∙◌, Ordering}
-use Rattle.std.specs.Cmp.{Equal-is, IsTotalOrder}
-use Rattle.std.specs.FinMap.{FinMap, IsAntisymmetric, get, same_map}
-use Rattle.std.specs.Ordering.{eq_by_cmp}
-use Rattle.bsp_store_load.specs.Content.{Content}
-use Rattle.bsp_store_load.specs.Synced.{with_value}
+use Rattle.bsp_store_base.proofs.Std.{◌∙◌, ◌≡◌, ap, Bool, cond, eq_by_cmp, Equal-is, false, FinMap, get, IsAntisymmetric, IsTotalOrder, Option, Ordering, refl, same_map, sym, true}
+use Rattle.bsp_store_base.proofs.Base.{Content, with_value}
 use Rattle.bsp_store_load.proofs.Syncing.{get-with_value}
 
 -- what is known of the table

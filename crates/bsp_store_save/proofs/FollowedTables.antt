@@ -1,33 +1,15 @@
 -- The tables whose rows are found by keys, as they follow from the maps in memory.
-use Rattle.std.proofs.Common.{◌≡◌, ℕ, Bool, true, false, cond, List, Option, is_some, refl, sym, ap, ◌∙◌, nat_cmp, Ordering}
-use Rattle.std.specs.Option.{option_flatten}
-use Rattle.std.specs.FinMap.{FinMap, get}
+use Rattle.bsp_store_base.proofs.Std.{◌∙◌, ◌≡◌, ap, Bool, cond, false, FinMap, get, is_some, List, nat_cmp, Option, option_flatten, Ordering, refl, sym, true, ℕ}
 use Rattle.bsp_maps.specs.Present.{present}
 use Rattle.bsp_maps.proofs.PresentLemmas.{get-present}
-use Rattle.bsp_rows.specs.Item.{Item}
-use Rattle.bsp_rows.specs.MemoFields.{MemoFields}
-use Rattle.bsp_rows.specs.ReportedDocument.{ReportedDocument}
-use Rattle.bsp_rows.specs.Rows.{item_cmp, memo_cmp, range_cmp}
-use Rattle.bsp_rows.specs.Tallies.{tally_cmp}
-use Rattle.bsp_rows.specs.Tally.{Tally}
-use Rattle.bsp_rows.specs.declared.keys.ItemKey.{ItemKey}
-use Rattle.bsp_rows.specs.declared.keys.MemoKey.{MemoKey}
-use Rattle.bsp_rows.specs.declared.keys.RangeKey.{RangeKey}
-use Rattle.bsp_rows.specs.declared.keys.TallyKey.{TallyKey}
-use Rattle.bsp_rows.proofs.KeyOrders.{item_exact, item_total, range_total}
-use Rattle.bsp_store_base.specs.MapTables.{IsMapTable, MapTable}
-use Rattle.bsp_store_base.specs.Seconds.{sale_at, second_in, seconds_of, ticket, ticket_cmp, with_second}
-use Rattle.bsp_store_base.proofs.SecondLemmas.{get-seconds_of, seconds_of-written}
-use Rattle.bsp_store_rows.specs.Tables.{agents_map, memos_map, ranges_map, tallies_map}
-use Rattle.bsp_store_rows.proofs.Tables.{agents_lawful, memos_lawful, ranges_lawful, tallies_lawful}
+use Rattle.bsp_store_base.proofs.Entries.{Item, item_cmp, item_exact, item_total, ItemKey, memo_cmp, MemoFields, MemoKey, range_cmp, range_total, RangeKey, ReportedDocument, Tally, tally_cmp, TallyKey}
+use Rattle.bsp_store_base.proofs.Base.{airline_entries, entry_of, get-seconds_of, IsMapTable, MapTable, place_of, sale_at, second_in, seconds_of, seconds_of-written, ticket, ticket_cmp, with_second, with_value}
+use Rattle.bsp_store_rows.specs.Tables.{agents_map, memos_map, ranges_map, tallies_map, airlines_map}
+use Rattle.bsp_store_rows.proofs.Tables.{agents_lawful, memos_lawful, ranges_lawful, tallies_lawful, airlines_lawful}
 use Rattle.bsp_store_items.specs.Tables.{item_taxes_map, items_map, seconds_map, tally_taxes_map}
 use Rattle.bsp_store_items.proofs.Tables.{item_taxes_lawful, items_lawful, seconds_lawful, tally_taxes_lawful}
-use Rattle.bsp_store_rows.specs.Tables.{airlines_map}
-use Rattle.bsp_store_rows.proofs.Tables.{airlines_lawful}
 use Rattle.bsp_store_load.specs.AirlineEntry.{AirlineEntry}
-use Rattle.bsp_store_load.specs.Airlines.{airline_entries, entry_of, place_of}
 use Rattle.bsp_store_load.specs.Contents.{used_at, used_tallies}
-use Rattle.bsp_store_load.specs.Synced.{with_value}
 use Rattle.bsp_store_load.proofs.AirlineLemmas.{get-airline_entries}
 use Rattle.bsp_store_load.proofs.TallyLemmas.{get-used}
 use Rattle.bsp_store_save.specs.Seconds.{gives_second, has_second}

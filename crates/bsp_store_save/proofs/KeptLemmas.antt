@@ -1,6 +1,5 @@
 -- How many of a plan's airlines were published at the last commit.
-use Rattle.std.proofs.Common.{◌≡◌, ℕ, ◌≤◌, List, length, take, sym, ap, ◌∙◌, arith}
-use Rattle.std.proofs.lemmas.List.{length-take, take_all}
+use Rattle.bsp_store_base.proofs.Std.{◌∙◌, ◌≡◌, ◌≤◌, ap, arith, length, length-take, List, sym, take, take_all, ℕ}
 
 module _ (n : ℕ) (front was ps : List ℕ) (count : n ≡ length front) (same : front ≡ was) where
   its_length : n ≡ length was

@@ -1,32 +1,12 @@
 -- Tables without a row, and then the row of `meta`, are those of an empty book.
-use Rattle.std.proofs.Common.{◌≡◌, ℕ, List, [], map, None, Some, refl, sym, ap, subst, subst₂, ◌∙◌}
-use Rattle.std.specs.List.{filter, filter_map}
-use Rattle.std.specs.FinMap.{empty, entries, from_entries}
-use Rattle.std.specs.Ordering.{nat_cmp}
-use Rattle.std.proofs.lemmas.List.Sorted.{IsPermutation-refl}
-use Rattle.sqlite_value.specs.Order.{Row}
-use Rattle.sqlite.specs.Effect.{Database, IsDatabase}
-use Rattle.bsp_maps.proofs.OrderLemmas.{no_entries}
-use Rattle.bsp_rows.specs.CivilDay.{CivilDay}
-use Rattle.bsp_rows.specs.Published.{opening}
-use Rattle.bsp_rows.specs.Item.{Item}
-use Rattle.bsp_rows.specs.Rows.{no_rows, item_cmp, memo_cmp, range_cmp}
-use Rattle.bsp_rows.specs.Tally.{Tally}
-use Rattle.bsp_rows.specs.Tallies.{tally_cmp}
-use Rattle.bsp_rows.specs.declared.keys.ItemKey.{ItemKey}
-use Rattle.bsp_rows.specs.declared.keys.TallyKey.{TallyKey}
+use Rattle.bsp_store_base.proofs.Std.{[], ◌∙◌, ◌≡◌, ap, empty, entries, filter, filter_map, from_entries, IsPermutation-refl, List, map, nat_cmp, None, refl, Some, subst, subst₂, sym, ℕ}
+use Rattle.bsp_store_base.proofs.Sqlite.{Database, IsDatabase, Row}
+use Rattle.bsp_store_base.proofs.Entries.{CivilDay, Item, item_cmp, ItemKey, memo_cmp, no_entries, no_rows, opening, range_cmp, Tally, tally_cmp, TallyKey}
 use Rattle.bsp_memory_rows.specs.Lookups.{has_rows}
 use Rattle.bsp_memory_rows.proofs.DerivedLemmas.{no_totals}
-use Rattle.bsp_store_base.specs.Made.{HasNoRows}
-use Rattle.bsp_store_base.specs.Schema.{our_schema}
-use Rattle.bsp_store_base.specs.Airlines.{airline_entries, unplaced}
-use Rattle.bsp_store_base.specs.Seconds.{second_entry, seconds_of}
-use Rattle.bsp_store_base.proofs.SecondLemmas.{entries-seconds_of}
-use Rattle.bsp_store_load.specs.Columns.{agent_row, airline_row, item_row, item_tax_row, memo_row, second_row, stock_row, tally_row, tally_tax_row}
-use Rattle.bsp_store_load.specs.Content.{Content, content_with, form}
+use Rattle.bsp_store_base.proofs.Base.{agent_row, airline_entries, airline_row, Content, content_with, entries-seconds_of, form, HasNoRows, item_row, item_tax_row, Keeps, KeepsSound, KeepsTable, memo_row, our_schema, second_entry, second_row, seconds_of, stock_row, tally_row, tally_tax_row, unplaced}
 use Rattle.bsp_store_load.specs.Contents.{used_tallies}
 use Rattle.bsp_store_load.specs.Formed.{IsBook}
-use Rattle.bsp_store_load.specs.Kept.{Keeps, KeepsSound, KeepsTable}
 use Rattle.bsp_store_load.proofs.FormedContent.{no_rows_formed}
 use Rattle.bsp_store_load.proofs.TallyLemmas.{content_is}
 use Rattle.bsp_store_save.specs.Making.{IsNewBook}

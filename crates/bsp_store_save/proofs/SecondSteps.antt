@@ -1,17 +1,9 @@
 -- The second document of an item, written under its ticket.
-use Rattle.std.proofs.Common.{◌≡◌, Bool, true, false, cond, Option, Some, None, is_some, refl, sym, ap, subst}
-use Rattle.std.specs.Prelude.{unwrap_or}
-use Rattle.std.specs.FinMap.{get}
-use Rattle.sqlite.specs.Held.{Held}
-use Rattle.sqlite_trees.specs.declared.store.Store.{Ghosts}
-use Rattle.bsp_rows.specs.Item.{Item}
-use Rattle.bsp_rows.specs.ReportedDocument.{ReportedDocument}
-use Rattle.bsp_rows.specs.declared.keys.ItemKey.{ItemKey}
-use Rattle.bsp_store_base.specs.Seconds.{second_in, ticket, ticket_of, with_second}
+use Rattle.bsp_store_base.proofs.Std.{◌≡◌, ap, Bool, cond, false, get, is_some, None, Option, refl, Some, subst, sym, true, unwrap_or}
+use Rattle.bsp_store_base.proofs.Sqlite.{Ghosts, Held}
+use Rattle.bsp_store_base.proofs.Entries.{Item, ItemKey, ReportedDocument}
+use Rattle.bsp_store_base.proofs.Base.{Changes, Content, second_in, ticket, ticket_of, with_second, with_value}
 use Rattle.bsp_store_base.specs.declared.tickets.TicketKey.{TicketKey}
-use Rattle.bsp_store_load.specs.Calls.{Changes}
-use Rattle.bsp_store_load.specs.Content.{Content}
-use Rattle.bsp_store_load.specs.Synced.{with_value}
 use Rattle.bsp_store_save.specs.Seconds.{has_second}
 
 -- the content with this at a ticket

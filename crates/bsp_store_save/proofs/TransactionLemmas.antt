@@ -1,22 +1,18 @@
 -- What a commit writes, part by part, is what is in memory.
-use Rattle.std.proofs.Common.{ℕ, List, ◌∙◌, nat_cmp, ◌≡◌, refl, sym, ap, subst}
-use Rattle.std.specs.FinMap.{FinMap}
-use Rattle.sqlite.specs.Held.{Held}
-use Rattle.sqlite_trees.specs.declared.store.Store.{Ghosts}
+use Rattle.bsp_store_base.proofs.Std.{◌∙◌, ◌≡◌, ap, FinMap, List, nat_cmp, refl, Result, subst, sym, ℕ}
+use Rattle.bsp_store_base.proofs.Sqlite.{Ghosts, Held}
 use Rattle.bsp_memory_tables.specs.ItemTables.{item_rows_before}
 use Rattle.bsp_memory_tables.specs.TallyTables.{tally_rows_before}
 use Rattle.bsp_rows.specs.Published.{Published}
-use Rattle.bsp_store_load.specs.Airlines.{airline_entries}
-use Rattle.bsp_store_load.specs.Calls.{Changes, GivesUpIf}
+use Rattle.bsp_store_base.proofs.Base.{airline_entries, Content}
 use Rattle.bsp_store_load.specs.MemoryRowsTables.{committed_rows}
 use Rattle.bsp_store_load.specs.Plans.{plan_before}
 use Rattle.bsp_store_load.specs.SavedPlan.{SavedPlan}
 use Rattle.bsp_store_load.specs.Tables.{Tables}
-use Rattle.bsp_store_load.specs.Content.{Content, form}
 use Rattle.bsp_store_load.specs.Contents.{content_before}
-use Rattle.bsp_store_load.specs.Kept.{HasContents, IsInside}
 use Rattle.bsp_store_save.proofs.AirlineSteps.{has_airlines, with_airlines}
-use Rattle.bsp_store_save.specs.Saving.{HasCallers, HasDocuments, HasItems, HasPlan, HasTallies, with_callers, with_plan}
+use Rattle.bsp_store_save.specs.Saving.{HasCallers, HasDocuments, HasItems, HasPlan, HasTallies, Saves, with_callers, with_plan}
+use Rattle.bsp_store_save.proofs.StepLemmas.{restated}
 
 -- what the content at the last commit has
 pub has_plan : (t : Tables) (now : Content) → now ≡ content_before t → HasPlan (committed_rows t).published now
@@ -39,25 +35,15 @@ has_documents t p now is = record {
 }
 
 -- what writing the plan does, said of the plan and of what it was
-module _ {S : Type 0} (g : Ghosts S) (first second : Held S) (p q before : Published) (s : SavedPlan) (same : p ≡ q) (was : before ≡ plan_before q s) where
-  pub plan_saved : Changes g first second (HasPlan (plan_before p s)) (with_plan p) → Changes g first second (HasPlan before) (with_plan q)
-  plan_saved made =
-      subst (λ (x : Published). Changes g first second (HasPlan x) (with_plan q)) (sym was)
-      (subst (λ (x : Published). Changes g first second (HasPlan (plan_before x s)) (with_plan x)) same made)
-
-  pub plan_not_saved : GivesUpIf g first second (HasPlan (plan_before p s)) → GivesUpIf g first second (HasPlan before)
-  plan_not_saved fails =
-      subst (λ (x : Published). GivesUpIf g first second (HasPlan x)) (sym was)
-      (subst (λ (x : Published). GivesUpIf g first second (HasPlan (plan_before x s))) same fails)
+pub plan_saves : {S X E : Type 0} {g : Ghosts S} {first second : Held S} {r : Result X E} {p q before : Published} (s : SavedPlan) → p ≡ q → before ≡ plan_before q s → Saves g first second r (HasPlan (plan_before p s)) (with_plan p) → Saves g first second r (HasPlan before) (with_plan q)
+plan_saves {g = g} {first = first} {second = second} {r = r} {q = q} s same was it =
+    subst (λ (x : Published). Saves g first second r (HasPlan x) (with_plan q)) (sym was)
+    (subst (λ (x : Published). Saves g first second r (HasPlan (plan_before x s)) (with_plan x)) same it)
 
 -- what writing the airlines does, said of the plan and of what it was
-module _ {S : Type 0} (g : Ghosts S) (first second : Held S) (p q was : Published) (s : SavedPlan) (same : p ≡ q) (is : was ≡ plan_before q s) (old_tokens tokens : FinMap nat_cmp (List ℕ)) where
-  was_there : was.airlines ≡ (plan_before p s).airlines
-  was_there = ap (λ (x : Published). x.airlines) (is ∙ ap (λ (x : Published). plan_before x s) (sym same))
-
-  pub airlines_saved : Changes g first second (has_airlines (plan_before p s).airlines old_tokens) (with_airlines p.airlines tokens) → Changes g first second (has_airlines was.airlines old_tokens) (with_airlines q.airlines tokens)
-  airlines_saved made now last a b met stands inside =
-      subst (λ (x : Published). HasContents form g second (with_airlines x.airlines tokens now) last a b × IsInside form g second) same (made now last a b (met ∙ ap (λ l. airline_entries l old_tokens) was_there) stands inside)
-
-  pub airlines_not_saved : GivesUpIf g first second (has_airlines (plan_before p s).airlines old_tokens) → GivesUpIf g first second (has_airlines was.airlines old_tokens)
-  airlines_not_saved fails now last a b met stands inside = fails now last a b (met ∙ ap (λ l. airline_entries l old_tokens) was_there) stands inside
+pub airlines_save : {S X E : Type 0} {g : Ghosts S} {first second : Held S} {p q was : Published} (s : SavedPlan) (old_tokens tokens : FinMap nat_cmp (List ℕ)) (r : Result X E) → p ≡ q → was ≡ plan_before q s
+    → Saves g first second r (has_airlines (plan_before p s).airlines old_tokens) (with_airlines p.airlines tokens) → Saves g first second r (has_airlines was.airlines old_tokens) (with_airlines q.airlines tokens)
+airlines_save s old_tokens tokens r same is it =
+    restated r it
+    (λ now met. met ∙ ap (λ (x : Published). airline_entries x.airlines old_tokens) (is ∙ ap (λ (x : Published). plan_before x s) (sym same)))
+    (λ now met. ap (λ (x : Published). with_airlines x.airlines tokens now) same)

@@ -1,9 +1,7 @@
 -- Keys of a table that are written one after the other.
-use Rattle.std.specs.Prelude.{◌≡◌, Bool, Option, List, [], ◌∷◌, is_some, ⊤}
-use Rattle.std.specs.FinMap.{get}
-use Rattle.std.specs.declared.cmp.Ordering.{Ordering}
-use Rattle.bsp_store_base.specs.MapTables.{MapTable}
-use Rattle.bsp_store_load.specs.Content.{Content}
+use Rattle.std.specs.Prelude.{[], ⊤, ◌∷◌, ◌≡◌, Bool, is_some, List, Option}
+use Rattle.bsp_store_base.specs.Std.{get, Ordering}
+use Rattle.bsp_store_base.specs.Base.{Content, MapTable}
 
 -- whether a table has a row of a key
 abbrev pub has_row : {K V : Type 0} {R : K → K → Ordering} → MapTable K V R → K → Content → Bool

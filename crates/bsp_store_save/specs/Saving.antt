@@ -1,25 +1,22 @@
 -- What a commit writes to the tables of the store.
-use Rattle.std.specs.Prelude.{◌≡◌, ℕ, length, Some}
-use Rattle.std.specs.Ordering.{nat_cmp}
-use Rattle.bsp_rows.specs.CivilDay.{CivilDay}
-use Rattle.bsp_rows.specs.Published.{Published}
-use Rattle.bsp_maps.specs.Undo.{before, content}
-use Rattle.std.specs.FinMap.{FinMap}
-use Rattle.bsp_rows.specs.Item.{Item}
-use Rattle.bsp_rows.specs.Rows.{item_cmp}
-use Rattle.bsp_rows.specs.Tallies.{tally_cmp}
-use Rattle.bsp_rows.specs.Tally.{Tally}
+use Rattle.std.specs.Prelude.{◌≡◌, length, OnErr, OnOk, Result, Some, ℕ}
+use Rattle.bsp_store_base.specs.Std.{FinMap, nat_cmp}
+use Rattle.bsp_store_base.specs.Sqlite.{Ghosts, Held}
+use Rattle.bsp_store_base.specs.Entries.{before, CivilDay, content, Item, item_cmp, Published, Tally, tally_cmp}
 use Rattle.bsp_memory_tables.specs.ItemTables.{item_rows, item_rows_before}
 use Rattle.bsp_memory_tables.specs.MemoTables.{memo_rows, memo_rows_before}
 use Rattle.bsp_memory_tables.specs.RangeTables.{range_rows, range_rows_before}
 use Rattle.bsp_memory_tables.specs.TallyTables.{tally_rows, tally_rows_before}
-use Rattle.bsp_store_base.specs.Seconds.{seconds_of}
-use Rattle.bsp_store_load.specs.Airlines.{airline_entries}
+use Rattle.bsp_store_base.specs.Base.{airline_entries, Changes, Content, GivesUpIf, Meta, seconds_of}
 use Rattle.bsp_store_load.specs.MemoryRowsTables.{committed_rows, rows_of}
 use Rattle.bsp_store_load.specs.Tables.{Tables}
-use Rattle.bsp_store_load.specs.Columns.{Meta}
-use Rattle.bsp_store_load.specs.Content.{Content}
 use Rattle.bsp_store_load.specs.Contents.{used_tallies}
+
+-- what a call writes in the open transaction: where it succeeds, the content changes; else the transaction is given up, or
+-- is still to be
+pub record Saves {S X E : Type 0} (g : Ghosts S) (old new : Held S) (result : Result X E) (P : Content → Type 0) (f : Content → Content) : Type 0 where
+  pub ok : OnOk result (Changes g old new P f)
+  pub err : OnErr result (GivesUpIf g old new P)
 
 -- a business day and a number of closed periods, and those of a plan
 abbrev pub meta_with : CivilDay → ℕ → Meta

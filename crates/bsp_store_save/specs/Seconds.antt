@@ -1,9 +1,7 @@
 -- The second related document of an item, as a row of its own table.
 use Rattle.std.specs.Prelude.{Bool, false, if◌then◌else◌, is_some, Option}
 use Rattle.std.specs.FinMap.{FinMap, get}
-use Rattle.bsp_rows.specs.Item.{Item}
-use Rattle.bsp_rows.specs.ReportedDocument.{ReportedDocument}
-use Rattle.bsp_rows.specs.declared.keys.ItemKey.{ItemKey}
+use Rattle.bsp_store_base.specs.Entries.{Item, ItemKey, ReportedDocument}
 use Rattle.bsp_store_base.specs.Seconds.{second_in, ticket, ticket_cmp}
 
 -- whether the ticket of an item's key has a row; a CANX has none

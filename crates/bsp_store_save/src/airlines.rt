@@ -1,13 +1,13 @@
 //! The table of airlines, brought up to date: the tokens first, over the airlines that were published, and then the
 //! airlines that are published since.
 
-ghost use Rattle.std.specs.Prelude.{◌≡◌, ◌+◌, ◌<◌, ◌≤◌, length, take, OnErr, OnOk};
+ghost use Rattle.std.specs.Prelude.{◌+◌, ◌<◌, ◌≡◌, ◌≤◌, length, take};
 ghost use Rattle.std.specs.FinMap.{from_entries};
 ghost use Rattle.std.specs.Ordering.{nat_cmp};
 ghost use Rattle.bsp_maps.specs.Undo.{before, content};
 ghost use Rattle.bsp_store_load.specs.Airlines.{airline_entries};
-ghost use Rattle.bsp_store_load.specs.Calls.{Changes, GivesUp, GivesUpIf};
 ghost use Rattle.bsp_store_load.specs.Plans.{IsSaved, plan_before};
+ghost use Rattle.bsp_store_save.specs.Saving.{Saves};
 
 use crate::written::save_tokens;
 use bsp_maps::Logged;
@@ -40,8 +40,7 @@ fn publish<S: Alter>(
     at: usize,
 ) -> Result<(), Error>
     requires { at < length published.now }
-    ensures ok { OnOk result (Changes S.Store conn.old conn.new (λ c. c.airlines ≡ airline_entries (take at published.now) (from_entries tokens.now.entries)) (λ c. record c { airlines = airline_entries (take (at + 1) published.now) (from_entries tokens.now.entries) })) }
-    ensures err { OnErr result (GivesUp S.Store conn.old conn.new) }
+    ensures { Saves S.Store conn.old conn.new result (λ c. c.airlines ≡ airline_entries (take at published.now) (from_entries tokens.now.entries)) (λ c. record c { airlines = airline_entries (take (at + 1) published.now) (from_entries tokens.now.entries) }) }
 {
     let code = published[at];
     let token = tokens.get(&code).copied();
@@ -60,8 +59,7 @@ fn publish_from<S: Alter>(
     from: usize,
 ) -> Result<(), Error>
     requires { from ≤ length published.now }
-    ensures ok { OnOk result (Changes S.Store conn.old conn.new (λ c. c.airlines ≡ airline_entries (take from published.now) (from_entries tokens.now.entries)) (λ c. record c { airlines = airline_entries published.now (from_entries tokens.now.entries) })) }
-    ensures err { OnErr result (GivesUpIf S.Store conn.old conn.new (λ c. c.airlines ≡ airline_entries (take from published.now) (from_entries tokens.now.entries))) }
+    ensures { Saves S.Store conn.old conn.new result (λ c. c.airlines ≡ airline_entries (take from published.now) (from_entries tokens.now.entries)) (λ c. record c { airlines = airline_entries published.now (from_entries tokens.now.entries) }) }
 {
     for at in from..published.len() {
         publish(conn, tokens, published, at)?;
@@ -78,8 +76,7 @@ pub(crate) fn save_airlines<S: Alter>(
     tokens: &Logged<AirlineCode, Token>,
 ) -> Result<(), Error>
     requires { IsSaved plan.now saved.now }
-    ensures ok { OnOk result (Changes S.Store conn.old conn.new (λ c. c.airlines ≡ airline_entries (plan_before plan.now saved.now).airlines (before nat_cmp tokens.now)) (λ c. record c { airlines = airline_entries plan.now.airlines (content nat_cmp tokens.now) })) }
-    ensures err { OnErr result (GivesUpIf S.Store conn.old conn.new (λ c. c.airlines ≡ airline_entries (plan_before plan.now saved.now).airlines (before nat_cmp tokens.now))) }
+    ensures { Saves S.Store conn.old conn.new result (λ c. c.airlines ≡ airline_entries (plan_before plan.now saved.now).airlines (before nat_cmp tokens.now)) (λ c. record c { airlines = airline_entries plan.now.airlines (content nat_cmp tokens.now) }) }
 {
     let kept = kept_count(saved, plan);
     let published = plan.airlines();

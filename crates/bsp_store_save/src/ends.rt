@@ -1,8 +1,7 @@
 //! The ends of a transaction.
 
 ghost use Rattle.std.specs.Prelude.{IsTrue, OnOk, OnErr};
-ghost use Rattle.bsp_store_load.specs.Content.{Content, form};
-ghost use Rattle.bsp_store_load.specs.Kept.{HasCommitted, IsInside, IsOutside, HasContents};
+ghost use Rattle.bsp_store_base.specs.Base.{Content, form, HasCommitted, HasContents, IsInside, IsOutside};
 
 use sqlite::{Alter, Connection, Error};
 

@@ -1,10 +1,10 @@
 //! Tables whose rows are found by keys, brought up to date.
 
-ghost use Rattle.std.specs.Prelude.{◌≡◌, IfOk, OnOk, OnErr};
-ghost use Rattle.std.specs.FinMap.{IsAntisymmetric, entries, from_entries, get};
+ghost use Rattle.std.specs.Prelude.{◌≡◌, IfOk, OnErr, OnOk};
+ghost use Rattle.std.specs.FinMap.{entries, from_entries, get, IsAntisymmetric};
 ghost use Rattle.bsp_maps.specs.Undo.{IsEarlier, undone};
-ghost use Rattle.bsp_store_load.specs.Calls.{Changes, GivesUpIf};
 ghost use Rattle.bsp_store_save.specs.Each.{AreThere, with_each};
+ghost use Rattle.bsp_store_save.specs.Saving.{Saves};
 
 use bsp_maps::{Old, values_before};
 use sqlite::{Alter, Connection, Error, ErrorCode};
@@ -14,8 +14,7 @@ use std::collections::BTreeMap;
 /// A table whose rows are found by keys. A value in memory may have no row.
 pub(crate) trait Keyed<K: Ord + Copy + Drop, V: Copy + Drop> {
     ghost use Rattle.std.specs.Prelude.{Bool, Option};
-    ghost use Rattle.bsp_store_load.specs.Calls.{Changes, GivesUp};
-    ghost use Rattle.bsp_store_load.specs.Content.{Content};
+    ghost use Rattle.bsp_store_base.specs.Base.{Changes, Content, GivesUp};
 
     // the content with the row of a value at a key, or with none
     ghost set: { Self → K → Option V → Content → Content };
@@ -72,11 +71,9 @@ pub(crate) fn put_written<K: Ord + Copy + Drop, V: Copy + Drop, T: Keyed<K, V>, 
     before: &BTreeMap<K, Option<V>>,
     values: &BTreeMap<K, V>,
 ) -> Result<(), Error>
-    ensures ok { OnOk result (Changes S.Store conn.old conn.new
+    ensures { Saves S.Store conn.old conn.new result
         (AreThere (T.set table.now) (get (from_entries {R = K.cmp} values.now.entries)) T.holds (T.rows table.now) (entries (from_entries {R = K.cmp} before.now.entries)))
-        (with_each (T.set table.now) (get (from_entries {R = K.cmp} values.now.entries)) (entries (from_entries {R = K.cmp} before.now.entries)))) }
-    ensures err { OnErr result (GivesUpIf S.Store conn.old conn.new
-        (AreThere (T.set table.now) (get (from_entries {R = K.cmp} values.now.entries)) T.holds (T.rows table.now) (entries (from_entries {R = K.cmp} before.now.entries)))) }
+        (with_each (T.set table.now) (get (from_entries {R = K.cmp} values.now.entries)) (entries (from_entries {R = K.cmp} before.now.entries))) }
 {
     let _count = before.len();
     for (key, old) in before {

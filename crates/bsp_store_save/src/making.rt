@@ -1,8 +1,7 @@
 //! The tables of an empty book, made in a store that has none.
 
 ghost use Rattle.std.specs.Prelude.{◌≡◌, false, OnOk};
-ghost use Rattle.sqlite.specs.Held.{state};
-ghost use Rattle.sqlite.specs.State.{HasCleanDisk, Survives};
+ghost use Rattle.bsp_store_base.specs.Sqlite.{HasCleanDisk, state, Survives};
 ghost use Rattle.bsp_rows.specs.Rows.{no_rows};
 ghost use Rattle.bsp_store_base.specs.Schema.{no_schema};
 ghost use Rattle.bsp_store_load.specs.Formed.{IsBook};

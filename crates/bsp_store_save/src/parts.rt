@@ -2,12 +2,9 @@
 
 ghost use Rattle.std.specs.Prelude.{◌≡◌, is_some, OnErr, OnOk};
 ghost use Rattle.std.specs.Option.{option_flatten};
-ghost use Rattle.bsp_store_base.specs.MapTables.{after, holds_row};
-ghost use Rattle.bsp_store_rows.specs.Tables.{ranges_map};
-ghost use Rattle.bsp_store_load.specs.Airlines.{entry_of, place_of};
-ghost use Rattle.bsp_store_load.specs.Calls.{Changes, GivesUp};
+ghost use Rattle.bsp_store_base.specs.Base.{after, Changes, entry_of, GivesUp, holds_row, place_of};
+ghost use Rattle.bsp_store_rows.specs.Tables.{ranges_map, airlines_map};
 ghost use Rattle.bsp_store_load.specs.Contents.{used_at};
-ghost use Rattle.bsp_store_rows.specs.Tables.{airlines_map};
 ghost use Rattle.bsp_store_save.specs.Each.{has_row};
 
 use crate::keyed::Keyed;

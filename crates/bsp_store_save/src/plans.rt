@@ -1,15 +1,15 @@
 //! The plan, its airlines apart, brought up to date: what is new in it is written.
 
-ghost use Rattle.std.specs.Prelude.{◌≡◌, OnErr, OnOk, Some};
+ghost use Rattle.std.specs.Prelude.{◌≡◌, ◌<◌, ◌^◌, Some, length};
 ghost use Rattle.std.specs.Bool.{Decides};
 ghost use Rattle.bsp_rows.specs.SoundPlan.{Continues};
-ghost use Rattle.bsp_store_load.specs.Calls.{Changes, GivesUpIf};
+ghost use Rattle.bsp_store_rows.specs.PlacedTables.{has_first, with_all};
 ghost use Rattle.bsp_store_load.specs.Plans.{IsSaved, plan_before};
-ghost use Rattle.bsp_store_save.specs.Saving.{HasPlan, meta_of, meta_with, with_plan};
+ghost use Rattle.bsp_store_save.specs.Saving.{HasPlan, Saves, meta_of, meta_with, with_plan};
 
 use bsp_rows::{Day, Plan};
 use bsp_store_load::SavedPlan;
-use bsp_store_rows::{CommissionTaxes, Periods, Rates, add_all, put_meta, put_terms};
+use bsp_store_rows::{CommissionTaxes, Periods, PlacedTable, Rates, add_all, put_meta, put_terms};
 use sqlite::{Alter, Connection, Error};
 
 /// Whether a plan has a business day and a number of closed periods.
@@ -33,8 +33,7 @@ fn save_meta<S: Alter>(
     closed: usize,
     new: &Plan,
 ) -> Result<(), Error>
-    ensures ok { OnOk result (Changes S.Store conn.old conn.new (λ c. c.meta ≡ Some (meta_with day closed)) (λ c. record c { meta = Some (meta_of new.now) })) }
-    ensures err { OnErr result (GivesUpIf S.Store conn.old conn.new (λ c. c.meta ≡ Some (meta_with day closed))) }
+    ensures { Saves S.Store conn.old conn.new result (λ c. c.meta ≡ Some (meta_with day closed)) (λ c. record c { meta = Some (meta_of new.now) }) }
 {
     if has_meta(new, day, closed) {
         return Ok(());
@@ -44,8 +43,7 @@ fn save_meta<S: Alter>(
 
 /// Writes the terms where they differ.
 fn save_terms<S: Alter>(conn: &mut Connection<S>, old: &Plan, new: &Plan) -> Result<(), Error>
-    ensures ok { OnOk result (Changes S.Store conn.old conn.new (λ c. c.terms ≡ old.now.terms) (λ c. record c { terms = new.now.terms })) }
-    ensures err { OnErr result (GivesUpIf S.Store conn.old conn.new (λ c. c.terms ≡ old.now.terms)) }
+    ensures { Saves S.Store conn.old conn.new result (λ c. c.terms ≡ old.now.terms) (λ c. record c { terms = new.now.terms }) }
 {
     if same_terms(old, new) {
         return Ok(());
@@ -53,54 +51,35 @@ fn save_terms<S: Alter>(conn: &mut Connection<S>, old: &Plan, new: &Plan) -> Res
     put_terms(conn, new.terms())
 }
 
-/// Writes the rates that are new.
-fn save_rates<S: Alter>(conn: &mut Connection<S>, old: &Plan, new: &Plan) -> Result<(), Error>
-    requires { Continues old.now new.now }
-    ensures ok { OnOk result (Changes S.Store conn.old conn.new (λ c. c.rates ≡ old.now.rates) (λ c. record c { rates = new.now.rates })) }
-    ensures err { OnErr result (GivesUpIf S.Store conn.old conn.new (λ c. c.rates ≡ old.now.rates)) }
-{
-    let kept = old.rates();
-    let all = new.rates();
-    add_all(&Rates, conn, kept.len(), all)
-}
-
-/// Writes the periods that are new.
-fn save_periods<S: Alter>(conn: &mut Connection<S>, old: &Plan, new: &Plan) -> Result<(), Error>
-    requires { Continues old.now new.now }
-    ensures ok { OnOk result (Changes S.Store conn.old conn.new (λ c. c.periods ≡ old.now.periods) (λ c. record c { periods = new.now.periods })) }
-    ensures err { OnErr result (GivesUpIf S.Store conn.old conn.new (λ c. c.periods ≡ old.now.periods)) }
-{
-    let kept = old.periods();
-    let all = new.periods();
-    add_all(&Periods, conn, kept.len(), all)
-}
-
-/// Writes the taxes on commission that are new.
-fn save_commission_taxes<S: Alter>(
+/// Writes the entries of a list that are new in it.
+fn save_more<A: Copy, T: PlacedTable<A>, S: Alter>(
+    table: &T,
     conn: &mut Connection<S>,
-    old: &Plan,
-    new: &Plan,
+    kept: &[A],
+    all: &[A],
 ) -> Result<(), Error>
-    requires { Continues old.now new.now }
-    ensures ok { OnOk result (Changes S.Store conn.old conn.new (λ c. c.commission_taxes ≡ old.now.commission_taxes) (λ c. record c { commission_taxes = new.now.commission_taxes })) }
-    ensures err { OnErr result (GivesUpIf S.Store conn.old conn.new (λ c. c.commission_taxes ≡ old.now.commission_taxes)) }
+    requires { length all.now < 2 ^ 63 }
+    ensures { Saves S.Store conn.old conn.new result (has_first T.list (length kept.now) all.now) (with_all T.list all.now) }
 {
-    let kept = old.commission_taxes();
-    let all = new.commission_taxes();
-    add_all(&CommissionTaxes, conn, kept.len(), all)
+    add_all(table, conn, kept.len(), all)
 }
 
 /// Writes what is new in a plan that continues another, its airlines apart.
 fn save_growth<S: Alter>(conn: &mut Connection<S>, old: &Plan, new: &Plan) -> Result<(), Error>
     requires { Continues old.now new.now }
-    ensures ok { OnOk result (Changes S.Store conn.old conn.new (HasPlan old.now) (with_plan new.now)) }
-    ensures err { OnErr result (GivesUpIf S.Store conn.old conn.new (HasPlan old.now)) }
+    ensures { Saves S.Store conn.old conn.new result (HasPlan old.now) (with_plan new.now) }
 {
     save_meta(conn, old.day(), old.closed_count(), new)?;
     save_terms(conn, old, new)?;
-    save_rates(conn, old, new)?;
-    save_periods(conn, old, new)?;
-    save_commission_taxes(conn, old, new)
+    let kept = old.rates();
+    let all = new.rates();
+    save_more(&Rates, conn, kept, all)?;
+    let kept = old.periods();
+    let all = new.periods();
+    save_more(&Periods, conn, kept, all)?;
+    let kept = old.commission_taxes();
+    let all = new.commission_taxes();
+    save_more(&CommissionTaxes, conn, kept, all)
 }
 
 /// Writes what is new in a plan, its airlines apart. Where only its business day and its closed periods are, it takes the same time for every
@@ -111,8 +90,7 @@ pub(crate) fn save_plan<S: Alter>(
     plan: &Plan,
 ) -> Result<(), Error>
     requires { IsSaved plan.now saved.now }
-    ensures ok { OnOk result (Changes S.Store conn.old conn.new (HasPlan (plan_before plan.now saved.now)) (with_plan plan.now)) }
-    ensures err { OnErr result (GivesUpIf S.Store conn.old conn.new (HasPlan (plan_before plan.now saved.now))) }
+    ensures { Saves S.Store conn.old conn.new result (HasPlan (plan_before plan.now saved.now)) (with_plan plan.now) }
 {
     match saved {
         SavedPlan::Same => Ok(()),

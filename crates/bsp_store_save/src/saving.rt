@@ -1,11 +1,9 @@
 //! What was written since the last commit, written to the store in one transaction.
 
 ghost use Rattle.std.specs.Prelude.{◌≡◌, OnOk, OnErr};
-ghost use Rattle.bsp_store_load.specs.Content.{form};
-ghost use Rattle.bsp_store_load.specs.Kept.{HasCommitted};
-ghost use Rattle.bsp_store_load.specs.Calls.{Changes, GivesUpIf, IsKept};
+ghost use Rattle.bsp_store_base.specs.Base.{form, HasCommitted, IsKept};
 ghost use Rattle.bsp_store_load.specs.Contents.{content_before, content_now};
-ghost use Rattle.bsp_store_save.specs.Saving.{HasCallers, HasDocuments, with_callers, with_documents};
+ghost use Rattle.bsp_store_save.specs.Saving.{HasCallers, HasDocuments, Saves, with_callers, with_documents};
 
 use crate::airlines::save_airlines;
 use crate::ends::{close_transaction, open_transaction};
@@ -21,8 +19,7 @@ fn save_callers<S: Alter>(
     conn: &mut Connection<S>,
     tables: &Tables,
 ) -> Result<(), Error>
-    ensures ok { OnOk result (Changes S.Store conn.old conn.new (HasCallers tables.now) (with_callers tables.now)) }
-    ensures err { OnErr result (GivesUpIf S.Store conn.old conn.new (HasCallers tables.now)) }
+    ensures { Saves S.Store conn.old conn.new result (HasCallers tables.now) (with_callers tables.now) }
 {
     save_agents(alloc, conn, tables.agent_tokens())?;
     save_airlines(
@@ -42,8 +39,7 @@ fn save_documents<S: Alter>(
     conn: &mut Connection<S>,
     tables: &Tables,
 ) -> Result<(), Error>
-    ensures ok { OnOk result (Changes S.Store conn.old conn.new (HasDocuments tables.now) (with_documents tables.now)) }
-    ensures err { OnErr result (GivesUpIf S.Store conn.old conn.new (HasDocuments tables.now)) }
+    ensures { Saves S.Store conn.old conn.new result (HasDocuments tables.now) (with_documents tables.now) }
 {
     save_items(alloc, conn, tables.item_table())?;
     save_memos(alloc, conn, tables.memo_table())?;
@@ -57,8 +53,7 @@ fn save_tables<S: Alter>(
     conn: &mut Connection<S>,
     tables: &Tables,
 ) -> Result<(), Error>
-    ensures ok { OnOk result (Changes S.Store conn.old conn.new (λ now. now ≡ content_before tables.now) (λ now. content_now tables.now)) }
-    ensures err { OnErr result (GivesUpIf S.Store conn.old conn.new (λ now. now ≡ content_before tables.now)) }
+    ensures { Saves S.Store conn.old conn.new result (λ now. now ≡ content_before tables.now) (λ now. content_now tables.now) }
 {
     save_plan(conn, tables.saved_plan(), tables.plan())?;
     save_callers(alloc, conn, tables)?;

@@ -1,8 +1,7 @@
 //! The table of second related documents. It follows from the items in memory, under the keys of their tickets.
 
 ghost use Rattle.std.specs.Prelude.{◌≡◌, OnErr, OnOk};
-ghost use Rattle.bsp_store_base.specs.Seconds.{second_in, with_second};
-ghost use Rattle.bsp_store_load.specs.Calls.{Changes, GivesUp};
+ghost use Rattle.bsp_store_base.specs.Base.{Changes, GivesUp, second_in, with_second};
 ghost use Rattle.bsp_store_save.specs.Seconds.{gives_second, has_second};
 
 use crate::keyed::Keyed;

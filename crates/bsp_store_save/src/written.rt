@@ -1,6 +1,6 @@
 //! The tables whose rows are found by keys, brought up to date with those in memory.
 
-ghost use Rattle.std.specs.Prelude.{◌≡◌, OnErr, OnOk};
+ghost use Rattle.std.specs.Prelude.{◌≡◌};
 ghost use Rattle.std.specs.Ordering.{nat_cmp};
 ghost use Rattle.bsp_maps.specs.Undo.{before, content};
 ghost use Rattle.bsp_memory_tables.specs.ItemTables.{item_rows, item_rows_before};
@@ -8,8 +8,7 @@ ghost use Rattle.bsp_memory_tables.specs.MemoTables.{memo_rows, memo_rows_before
 ghost use Rattle.bsp_memory_tables.specs.RangeTables.{range_rows, range_rows_before};
 ghost use Rattle.bsp_memory_tables.specs.TallyTables.{tally_rows, tally_rows_before};
 ghost use Rattle.bsp_store_load.specs.Airlines.{airline_entries};
-ghost use Rattle.bsp_store_load.specs.Calls.{Changes, GivesUpIf};
-ghost use Rattle.bsp_store_save.specs.Saving.{HasItems, HasTallies, with_items, with_tallies};
+ghost use Rattle.bsp_store_save.specs.Saving.{HasItems, HasTallies, Saves, with_items, with_tallies};
 
 use crate::keyed::{put_written, written_before};
 use crate::parts::{AirlineTokens, AsItIs, Granted, Tallied};
@@ -28,8 +27,7 @@ pub(crate) fn save_agents<S: Alter>(
     conn: &mut Connection<S>,
     tokens: &Logged<AgentCode, Token>,
 ) -> Result<(), Error>
-    ensures ok { OnOk result (Changes S.Store conn.old conn.new (λ c. c.agents ≡ before nat_cmp tokens.now) (λ c. record c { agents = content nat_cmp tokens.now })) }
-    ensures err { OnErr result (GivesUpIf S.Store conn.old conn.new (λ c. c.agents ≡ before nat_cmp tokens.now)) }
+    ensures { Saves S.Store conn.old conn.new result (λ c. c.agents ≡ before nat_cmp tokens.now) (λ c. record c { agents = content nat_cmp tokens.now }) }
 {
     let values = tokens.map();
     let before = written_before(alloc, tokens.written(), values)?;
@@ -43,8 +41,7 @@ pub(crate) fn save_tokens<S: Alter>(
     published: &[AirlineCode],
     tokens: &Logged<AirlineCode, Token>,
 ) -> Result<(), Error>
-    ensures ok { OnOk result (Changes S.Store conn.old conn.new (λ c. c.airlines ≡ airline_entries published.now (before nat_cmp tokens.now)) (λ c. record c { airlines = airline_entries published.now (content nat_cmp tokens.now) })) }
-    ensures err { OnErr result (GivesUpIf S.Store conn.old conn.new (λ c. c.airlines ≡ airline_entries published.now (before nat_cmp tokens.now))) }
+    ensures { Saves S.Store conn.old conn.new result (λ c. c.airlines ≡ airline_entries published.now (before nat_cmp tokens.now)) (λ c. record c { airlines = airline_entries published.now (content nat_cmp tokens.now) }) }
 {
     let values = tokens.map();
     let before = written_before(alloc, tokens.written(), values)?;
@@ -57,8 +54,7 @@ pub(crate) fn save_ranges<S: Alter>(
     conn: &mut Connection<S>,
     table: &RangeTable,
 ) -> Result<(), Error>
-    ensures ok { OnOk result (Changes S.Store conn.old conn.new (λ c. c.ranges ≡ range_rows_before table.now) (λ c. record c { ranges = range_rows table.now })) }
-    ensures err { OnErr result (GivesUpIf S.Store conn.old conn.new (λ c. c.ranges ≡ range_rows_before table.now)) }
+    ensures { Saves S.Store conn.old conn.new result (λ c. c.ranges ≡ range_rows_before table.now) (λ c. record c { ranges = range_rows table.now }) }
 {
     let values = table.map();
     let before = written_before(alloc, table.written(), values)?;
@@ -71,8 +67,7 @@ pub(crate) fn save_items<S: Alter>(
     conn: &mut Connection<S>,
     table: &ItemTable,
 ) -> Result<(), Error>
-    ensures ok { OnOk result (Changes S.Store conn.old conn.new (HasItems (item_rows_before table.now)) (with_items (item_rows table.now))) }
-    ensures err { OnErr result (GivesUpIf S.Store conn.old conn.new (HasItems (item_rows_before table.now))) }
+    ensures { Saves S.Store conn.old conn.new result (HasItems (item_rows_before table.now)) (with_items (item_rows table.now)) }
 {
     let values = table.map();
     let before = written_before(alloc, table.written(), values)?;
@@ -87,8 +82,7 @@ pub(crate) fn save_memos<S: Alter>(
     conn: &mut Connection<S>,
     table: &MemoTable,
 ) -> Result<(), Error>
-    ensures ok { OnOk result (Changes S.Store conn.old conn.new (λ c. c.memos ≡ memo_rows_before table.now) (λ c. record c { memos = memo_rows table.now })) }
-    ensures err { OnErr result (GivesUpIf S.Store conn.old conn.new (λ c. c.memos ≡ memo_rows_before table.now)) }
+    ensures { Saves S.Store conn.old conn.new result (λ c. c.memos ≡ memo_rows_before table.now) (λ c. record c { memos = memo_rows table.now }) }
 {
     let values = table.map();
     let before = written_before(alloc, table.written(), values)?;
@@ -101,8 +95,7 @@ pub(crate) fn save_tallies<S: Alter>(
     conn: &mut Connection<S>,
     table: &TallyTable,
 ) -> Result<(), Error>
-    ensures ok { OnOk result (Changes S.Store conn.old conn.new (HasTallies (tally_rows_before table.now)) (with_tallies (tally_rows table.now))) }
-    ensures err { OnErr result (GivesUpIf S.Store conn.old conn.new (HasTallies (tally_rows_before table.now))) }
+    ensures { Saves S.Store conn.old conn.new result (HasTallies (tally_rows_before table.now)) (with_tallies (tally_rows table.now)) }
 {
     let values = table.map();
     let before = written_before(alloc, table.written(), values)?;

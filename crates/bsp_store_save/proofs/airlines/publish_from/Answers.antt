@@ -1,11 +1,8 @@
-use Rattle.std.proofs.Common.{refl, subst, take, nat_cmp}
-use Rattle.std.specs.FinMap.{FinMap, from_entries}
-use Rattle.std.proofs.lemmas.List.{take_all}
+use Rattle.bsp_store_base.proofs.Std.{FinMap, from_entries, nat_cmp, refl, subst, take, take_all}
 use Rattle.bsp_store_load.specs.AirlineEntry.{AirlineEntry}
-use Rattle.bsp_store_load.specs.Content.{form}
-use Rattle.bsp_store_load.specs.Kept.{HasContents, IsInside}
+use Rattle.bsp_store_base.proofs.Base.{form, HasContents, IsInside}
 use Rattle.bsp_store_save.proofs.AirlineSteps.{with_airlines}
-use Rattle.bsp_store_save.proofs.StepLemmas.{on_err}
+use Rattle.bsp_store_save.proofs.StepLemmas.{stops}
 use Rattle.bsp_store_save.proofs.airlines.publish_from.Goals as goal
 
 pub loop-at-init : goal.loop-at-init
@@ -18,13 +15,16 @@ loop-at-preserved g c = λ now last a b met stands inside.
     let so_far = i.invariant now last a b met stands inside in
     c.in_ok-publish.ensures.ok (with_airlines (take i.at c.args.published.now) (from_entries c.args.tokens.now.entries) now) last a b refl so_far.0 so_far.1
 
-pub returns-clause-ok : goal.returns-clause-ok
-returns-clause-ok g c = λ now last a b met stands inside.
-    let i = c.loop-at in
-    subst (λ l. HasContents form g.S.Store i.conn (with_airlines l (from_entries c.args.tokens.now.entries) now) last a b × IsInside form g.S.Store i.conn) (take_all i.at c.args.published.now c.loop-at-test.false) (i.invariant now last a b met stands inside)
+pub returns : goal.returns
+returns g c = record {
+  ok = λ now last a b met stands inside.
+      let i = c.loop-at in
+      subst (λ l. HasContents form g.S.Store i.conn (with_airlines l (from_entries c.args.tokens.now.entries) now) last a b × IsInside form g.S.Store i.conn) (take_all i.at c.args.published.now c.loop-at-test.false) (i.invariant now last a b met stands inside);
+  err = tt;
+}
 
-pub returns-in_err-publish-clause-err : goal.returns-in_err-publish-clause-err
-returns-in_err-publish-clause-err g c = on_err c.from_residual.result (λ now last a b met stands inside.
+pub returns-in_err-publish : goal.returns-in_err-publish
+returns-in_err-publish g c = stops _ c.from_residual.ensures.1 (λ now last a b met stands inside.
     let i = c.loop-at in
     let so_far = i.invariant now last a b met stands inside in
-    c.in_err-publish.ensures.err (with_airlines (take i.at c.args.published.now) (from_entries c.args.tokens.now.entries) now) last a b so_far.0 so_far.1)
+    c.in_err-publish.ensures.err (with_airlines (take i.at c.args.published.now) (from_entries c.args.tokens.now.entries) now) last a b refl so_far.0 so_far.1)

@@ -1,5 +1,4 @@
-use Rattle.std.proofs.Common.{take}
-use Rattle.std.specs.FinMap.{from_entries}
+use Rattle.bsp_store_base.proofs.Std.{from_entries, take}
 use Rattle.bsp_store_save.specs.Calls.{Changes}
 use Rattle.bsp_store_save.proofs.AirlineSteps.{has_airlines, with_airlines}
 use Rattle.bsp_store_save.proofs.airlines.publish_from.Given as goal

@@ -1,10 +1,6 @@
-use Rattle.std.proofs.Common.{refl, sym, ◌∙◌}
-use Rattle.std.specs.FinMap.{entries, from_entries, get}
-use Rattle.std.specs.Map.Iter.{deref_pair}
-use Rattle.std.proofs.lemmas.Map.Iter.{rest_all, rest_more}
-use Rattle.bsp_maps.proofs.OrderLemmas.{in_order}
-use Rattle.bsp_maps.proofs.UndoLemmas.{found}
-use Rattle.bsp_store_save.proofs.StepLemmas.{all_put, none_put, not_put, on_err, one_put}
+use Rattle.bsp_store_base.proofs.Std.{◌∙◌, deref_pair, entries, from_entries, get, refl, rest_all, rest_more, sym}
+use Rattle.bsp_store_base.proofs.Entries.{found, in_order}
+use Rattle.bsp_store_save.proofs.StepLemmas.{all_put, none_put, not_put, stops, one_put}
 use Rattle.bsp_store_save.proofs.keyed.put_written.Goals as goal
 
 pub loop-key-init : goal.loop-key-init
@@ -17,8 +13,8 @@ loop-key-preserved g c =
     c.in-Some.key.now c.has_row.result c.copied-value.result refl c.has_row.ensures
     (c.copied-value.ensures ∙ c.get.ensures.value ∙ sym (found g.met.K.Ord.total c.args.values.now.entries c.in-Some.key.now)) c.in_ok-put.ensures.ok
 
-pub returns-in_err-put-clause-err : goal.returns-in_err-put-clause-err
-returns-in_err-put-clause-err g c = on_err c.from_residual.result (not_put g.S.Store (g.T.Keyed.set c.args.table.now) (get (from_entries {R = g.K.Ord.cmp} c.args.values.now.entries)) g.T.Keyed.holds (g.T.Keyed.rows c.args.table.now) c.args.conn.now (entries (from_entries {R = g.K.Ord.cmp} c.args.before.now.entries)) c.loop-key.conn c.put.new.conn c.loop-key.key-iterator c.loop-key.invariant c.in_err-put.ensures.err)
+pub returns-in_err-put : goal.returns-in_err-put
+returns-in_err-put g c = stops _ c.from_residual.ensures.1 (not_put g.S.Store (g.T.Keyed.set c.args.table.now) (get (from_entries {R = g.K.Ord.cmp} c.args.values.now.entries)) g.T.Keyed.holds (g.T.Keyed.rows c.args.table.now) c.args.conn.now (entries (from_entries {R = g.K.Ord.cmp} c.args.before.now.entries)) c.loop-key.conn c.put.new.conn c.loop-key.key-iterator c.loop-key.invariant c.in_err-put.ensures.err)
 
-pub returns-clause-ok : goal.returns-clause-ok
-returns-clause-ok g c = all_put g.S.Store (g.T.Keyed.set c.args.table.now) (get (from_entries {R = g.K.Ord.cmp} c.args.values.now.entries)) g.T.Keyed.holds (g.T.Keyed.rows c.args.table.now) c.args.conn.now (entries (from_entries {R = g.K.Ord.cmp} c.args.before.now.entries)) c.loop-key.conn c.loop-key.key-iterator (rest_all deref_pair c.loop-key.key-iterator c.next.new.self c.next.result c.in-None.is c.next.ensures.steps) c.loop-key.invariant
+pub returns : goal.returns
+returns g c = all_put g.S.Store (g.T.Keyed.set c.args.table.now) (get (from_entries {R = g.K.Ord.cmp} c.args.values.now.entries)) g.T.Keyed.holds (g.T.Keyed.rows c.args.table.now) c.args.conn.now (entries (from_entries {R = g.K.Ord.cmp} c.args.before.now.entries)) c.loop-key.conn c.loop-key.key-iterator (rest_all deref_pair c.loop-key.key-iterator c.next.new.self c.next.result c.in-None.is c.next.ensures.steps) c.loop-key.invariant

@@ -1,8 +1,5 @@
 use Rattle.std.proofs.Common.{◌≡◌, sym, subst, arith, rules}
-use Rattle.sqlite.specs.Held.{state}
-use Rattle.sqlite.specs.State.{HasCleanDisk, Survives}
-use Rattle.sqlite.proofs.Callers.{survives_begin}
-use Rattle.sqlite.proofs.StateLemmas.{survives_then}
+use Rattle.bsp_store_base.proofs.Sqlite.{HasCleanDisk, state, Survives, survives_begin, survives_then}
 use Rattle.bsp_rows.specs.Rows.{no_rows}
 use Rattle.bsp_store_load.specs.Formed.{IsBook}
 use Rattle.bsp_store_save.specs.Making.{IsNewBook}

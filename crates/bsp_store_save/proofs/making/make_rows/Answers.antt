@@ -1,7 +1,5 @@
 use Rattle.std.proofs.Common.{arith}
-use Rattle.sqlite.specs.Held.{state}
-use Rattle.sqlite.specs.State.{HasCleanDisk}
-use Rattle.sqlite.proofs.StateLemmas.{survives_then}
+use Rattle.bsp_store_base.proofs.Sqlite.{HasCleanDisk, state, survives_then}
 use Rattle.bsp_store_save.proofs.MakingLemmas.{new_book}
 use Rattle.bsp_store_save.proofs.making.make_rows.Goals as goal
 

@@ -1,13 +1,10 @@
+use Rattle.std.proofs.Common.{ap, is_some, Some, sym, ◌∙◌}
 use Rattle.bsp_store_save.specs.Saving.{meta_with}
-use Rattle.bsp_store_save.proofs.PlanLemmas.{meta_kept, meta_not_saved, meta_saved}
-use Rattle.bsp_store_save.proofs.StepLemmas.{if_err, on_ok}
+use Rattle.bsp_store_save.proofs.StepLemmas.{as_it_is, ended, restated}
 use Rattle.bsp_store_save.proofs.plans.save_meta.Goals as goal
 
-pub returns-then-has_meta-clause-ok : goal.returns-then-has_meta-clause-ok
-returns-then-has_meta-clause-ok g c = meta_kept g.S.Store c.args.conn.now c.args.conn.now c.args.new.now (meta_with c.args.day c.args.closed) (c.has_meta.ensures.0 c.if-has_meta.true)
+pub returns-then-has_meta : goal.returns-then-has_meta
+returns-then-has_meta g c = as_it_is (λ now met. let there = sym (met ∙ ap Some (c.has_meta.ensures.0 c.if-has_meta.true)) in λ i. record now { meta = there i })
 
-pub returns-clause-ok : goal.returns-clause-ok
-returns-clause-ok g c = on_ok _ _ c.put_meta.result c.put_meta.ensures.ok (meta_saved g.S.Store c.args.conn.now c.put_meta.new.conn c.args.new.now (meta_with c.args.day c.args.closed) c.day.result c.closed_count.result c.day.ensures c.closed_count.ensures)
-
-pub returns-clause-err : goal.returns-clause-err
-returns-clause-err g c = if_err _ _ c.put_meta.result c.put_meta.ensures.err (meta_not_saved g.S.Store c.args.conn.now c.put_meta.new.conn (meta_with c.args.day c.args.closed))
+pub returns : goal.returns
+returns g c = restated c.put_meta.result (ended c.put_meta.result c.put_meta.ensures.ok c.put_meta.ensures.err) (λ now met. ap is_some met) (λ now met i. record now { meta = Some (meta_with (c.day.ensures i) (c.closed_count.ensures i)) })

@@ -1,21 +1,14 @@
-use Rattle.bsp_store_save.proofs.PlanLemmas.{day_not_saved, day_saved}
-use Rattle.bsp_store_save.proofs.StepLemmas.{if_err, on_ok}
+use Rattle.bsp_store_save.proofs.PlanLemmas.{dated_meta, dated_plan}
+use Rattle.bsp_store_save.proofs.StepLemmas.{as_it_is, restated}
 use Rattle.bsp_store_save.proofs.plans.save_plan.Goals as goal
 
-pub returns-in-Dated-clause-ok : goal.returns-in-Dated-clause-ok
-returns-in-Dated-clause-ok g c =
+pub returns-in-Same : goal.returns-in-Same
+returns-in-Same g c = rw c.in-Same.is (as_it_is (λ now has. has))
+
+pub returns-in-Dated : goal.returns-in-Dated
+returns-in-Dated g c =
     let kept = rw c.in-Dated.is at c.requires in
-    let made = day_saved g.S.Store c.args.conn.now c.save_meta.new.conn c.args.plan.now c.in-Dated.day c.in-Dated.closed kept.0 in
-    rw c.in-Dated.is (on_ok _ _ c.save_meta.result c.save_meta.ensures.ok made)
+    rw c.in-Dated.is (restated c.save_meta.result c.save_meta.ensures (dated_meta c.args.plan.now c.in-Dated.day c.in-Dated.closed kept.0) (dated_plan c.args.plan.now c.in-Dated.day c.in-Dated.closed kept.0))
 
-pub returns-in-Dated-clause-err : goal.returns-in-Dated-clause-err
-returns-in-Dated-clause-err g c =
-    let kept = rw c.in-Dated.is at c.requires in
-    let fails = day_not_saved g.S.Store c.args.conn.now c.save_meta.new.conn c.args.plan.now c.in-Dated.day c.in-Dated.closed kept.0 in
-    rw c.in-Dated.is (if_err _ _ c.save_meta.result c.save_meta.ensures.err fails)
-
-pub returns-in-Whole-clause-ok : goal.returns-in-Whole-clause-ok
-returns-in-Whole-clause-ok g c = rw c.in-Whole.is c.save_growth.ensures.ok
-
-pub returns-in-Whole-clause-err : goal.returns-in-Whole-clause-err
-returns-in-Whole-clause-err g c = rw c.in-Whole.is c.save_growth.ensures.err
+pub returns-in-Whole : goal.returns-in-Whole
+returns-in-Whole g c = rw c.in-Whole.is c.save_growth.ensures

@@ -1,23 +1,17 @@
-use Rattle.bsp_memory_tables.specs.TallyTables.{tally_rows, tally_rows_before}
+use Rattle.bsp_memory_tables.specs.TallyTables.{tally_rows_before}
 use Rattle.bsp_store_save.proofs.FollowedTables.{tallies_table, tally_taxes_table}
-use Rattle.bsp_store_save.proofs.StepLemmas.{if_err, on_err, on_ok}
-use Rattle.bsp_store_save.proofs.TogetherLemmas.{all_tallies_saved, tallies_fail, tally_taxes_fail}
-use Rattle.bsp_store_save.proofs.WrittenLemmas.{table_not_saved, table_saved}
+use Rattle.bsp_store_save.proofs.StepLemmas.{after, stops, unmade}
+use Rattle.bsp_store_save.proofs.TogetherLemmas.{its_tally_taxes, tallies_first}
+use Rattle.bsp_store_save.proofs.WrittenLemmas.{table_saves}
 use Rattle.bsp_store_save.proofs.written.save_tallies.Goals as goal
 
-pub returns-in_err-put_written-clause-err : goal.returns-in_err-put_written-clause-err
-returns-in_err-put_written-clause-err g c =
-    on_err c.from_residual-in_err-put_written.result (tallies_fail g.S.Store c.args.conn.now c.put_written.new.conn c.put_written.new.conn (tally_rows_before c.args.table.now) (tally_rows c.args.table.now)
-    (table_not_saved tallies_table c.args.table.now.rows c.map-values.result.now c.written.result.now c.in_ok-before.before c.map-values.ensures c.written.ensures c.in_ok-before.ensures g.S.Store c.args.conn.now c.put_written.new.conn c.in_err-put_written.ensures.err))
+pub returns-in_err-before : goal.returns-in_err-before
+returns-in_err-before g c = unmade _ c.from_residual.ensures.1
 
-pub returns-clause-ok : goal.returns-clause-ok
-returns-clause-ok g c =
-    on_ok _ _ c.put_written-2.result c.put_written-2.ensures.ok (λ it. all_tallies_saved g.S.Store c.args.conn.now c.put_written.new.conn c.put_written-2.new.conn (tally_rows_before c.args.table.now) (tally_rows c.args.table.now)
-    (table_saved tallies_table c.args.table.now.rows c.map-values.result.now c.written.result.now c.in_ok-before.before c.map-values.ensures c.written.ensures c.in_ok-before.ensures g.S.Store c.args.conn.now c.put_written.new.conn c.in_ok-put_written.ensures.ok)
-    (table_saved tally_taxes_table c.args.table.now.rows c.map-values.result.now c.written.result.now c.in_ok-before.before c.map-values.ensures c.written.ensures c.in_ok-before.ensures g.S.Store c.put_written.new.conn c.put_written-2.new.conn it))
+pub returns-in_err-put_written : goal.returns-in_err-put_written
+returns-in_err-put_written g c = stops _ c.from_residual-in_err-put_written.ensures.1 (tallies_first (tally_rows_before c.args.table.now) (table_saves tallies_table c.args.table.now.rows c.map-values.result.now c.written.result.now c.in_ok-before.before c.map-values.ensures c.written.ensures c.in_ok-before.ensures _ c.in_err-put_written.ensures)).err
 
-pub returns-clause-err : goal.returns-clause-err
-returns-clause-err g c =
-    if_err _ _ c.put_written-2.result c.put_written-2.ensures.err (λ it. tally_taxes_fail g.S.Store c.args.conn.now c.put_written.new.conn c.put_written-2.new.conn (tally_rows_before c.args.table.now) (tally_rows c.args.table.now)
-    (table_saved tallies_table c.args.table.now.rows c.map-values.result.now c.written.result.now c.in_ok-before.before c.map-values.ensures c.written.ensures c.in_ok-before.ensures g.S.Store c.args.conn.now c.put_written.new.conn c.in_ok-put_written.ensures.ok)
-    (table_not_saved tally_taxes_table c.args.table.now.rows c.map-values.result.now c.written.result.now c.in_ok-before.before c.map-values.ensures c.written.ensures c.in_ok-before.ensures g.S.Store c.put_written.new.conn c.put_written-2.new.conn it))
+pub returns : goal.returns
+returns g c =
+    after _ (tallies_first (tally_rows_before c.args.table.now) (table_saves tallies_table c.args.table.now.rows c.map-values.result.now c.written.result.now c.in_ok-before.before c.map-values.ensures c.written.ensures c.in_ok-before.ensures _ c.in_ok-put_written.ensures))
+    (table_saves tally_taxes_table c.args.table.now.rows c.map-values.result.now c.written.result.now c.in_ok-before.before c.map-values.ensures c.written.ensures c.in_ok-before.ensures c.put_written-2.result c.put_written-2.ensures) (its_tally_taxes (tally_rows_before c.args.table.now))

@@ -1,8 +1,5 @@
 use Rattle.std.proofs.Common.{subst, ap, ◌∙◌}
-use Rattle.bsp_store_load.specs.Airlines.{entry_of}
-use Rattle.bsp_store_load.specs.Content.{form}
-use Rattle.bsp_store_load.specs.Kept.{IsInside, HasContents}
-use Rattle.bsp_store_load.specs.Synced.{with_value}
+use Rattle.bsp_store_base.proofs.Base.{entry_of, form, HasContents, IsInside, with_value}
 use Rattle.bsp_store_save.proofs.StepLemmas.{on_ok}
 use Rattle.bsp_store_save.proofs.parts.AirlineTokensKeyedAirlineCodeToken.put.Goals as goal
 

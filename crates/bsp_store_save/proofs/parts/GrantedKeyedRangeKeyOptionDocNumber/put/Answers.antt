@@ -1,7 +1,5 @@
 use Rattle.std.proofs.Common.{subst}
-use Rattle.bsp_store_load.specs.Content.{form}
-use Rattle.bsp_store_load.specs.Kept.{IsInside, HasContents}
-use Rattle.bsp_store_load.specs.Synced.{with_value}
+use Rattle.bsp_store_base.proofs.Base.{form, HasContents, IsInside, with_value}
 use Rattle.bsp_store_save.proofs.StepLemmas.{on_ok}
 use Rattle.bsp_store_save.proofs.parts.GrantedKeyedRangeKeyOptionDocNumber.put.Goals as goal
 

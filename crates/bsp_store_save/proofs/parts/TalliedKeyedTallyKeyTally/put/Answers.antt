@@ -1,7 +1,5 @@
 use Rattle.std.proofs.Common.{subst}
-use Rattle.bsp_store_load.specs.Content.{form}
-use Rattle.bsp_store_load.specs.Kept.{IsInside, HasContents}
-use Rattle.bsp_store_base.specs.MapTables.{after}
+use Rattle.bsp_store_base.proofs.Base.{after, form, HasContents, IsInside}
 use Rattle.bsp_store_save.proofs.StepLemmas.{on_ok}
 use Rattle.bsp_store_save.proofs.parts.TalliedKeyedTallyKeyTally.put.Goals as goal
 
