@@ -1,13 +1,7 @@
 -- From a book in memory that was read to the book that is opened.
-use Rattle.std.proofs.Common.{◌≡◌, None, Result, Ok, Err, IfOk, inl, inr, sym, subst, arith}
-use Rattle.std.specs.Prelude.{IfErr, MatchResult}
-use Rattle.sqlite_trees.specs.Tree.{Trees}
-use Rattle.sqlite_trees.specs.View.{IsQuiet}
-use Rattle.sqlite_trees.specs.declared.store.Store.{Ghosts}
-use Rattle.sqlite.specs.Held.{Held, state}
-use Rattle.sqlite.specs.State.{HasCleanDisk, Survives}
-use Rattle.bsp_rows.specs.Rows.{Rows, no_rows}
-use Rattle.bsp_rows.specs.Sound.{Sound}
+use Rattle.bsp_store_base.proofs.Std.{◌≡◌, arith, Err, IfErr, IfOk, inl, inr, MatchResult, None, Ok, Result, subst, sym}
+use Rattle.bsp_store_base.proofs.Sqlite.{Ghosts, HasCleanDisk, Held, IsQuiet, state, Survives, Trees}
+use Rattle.bsp_store_base.proofs.Entries.{no_rows, Rows, Sound}
 use Rattle.bsp_book.specs.Listed.{Holds as ListHolds}
 use Rattle.bsp_book.specs.declared.list.ListBook.{ListBook}
 use Rattle.bsp_store_open.specs.Contents.{KeepsBook}

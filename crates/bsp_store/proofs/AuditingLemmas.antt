@@ -1,28 +1,19 @@
 -- From the rows that an audit finds to what the store keeps.
-use Rattle.std.proofs.Common.{◌≡◌, ◌⊎◌, ℕ, [], length, None, Result, Ok, Err, IfOk, inl, inr, sym, ap, subst, ◌∙◌, arith}
-use Rattle.std.specs.Prelude.{IfErr, IsErrAnd, MatchResult, false, true}
-use Rattle.std.specs.declared.cmp.Ordering.{Ordering}
+use Rattle.std.proofs.Common.{◌≡◌, ℕ, [], length, None, Result, Ok, Err, IfOk, sym, ap, subst, ◌∙◌}
+use Rattle.bsp_store_base.specs.Std.{entries, IfErr, IsAntisymmetric, IsTotalOrder, MatchResult, Ordering, true}
 use Rattle.std.specs.BTreeMap.{BTreeMap, IsOrdered as AreKeysOrdered}
-use Rattle.std.specs.Cmp.{IsTotalOrder}
-use Rattle.std.specs.FinMap.{IsAntisymmetric, entries}
-use Rattle.sqlite_trees.specs.View.{IsQuiet}
-use Rattle.sqlite_trees.specs.declared.store.Store.{Ghosts}
-use Rattle.sqlite.specs.Held.{Held, state}
-use Rattle.sqlite.specs.State.{CommitsShowing, Survives}
-use Rattle.bsp_rows.proofs.DemandLemmas.{same_entries}
-use Rattle.bsp_rows.specs.Audit.{as_map}
-use Rattle.bsp_rows.specs.Rows.{Rows}
+use Rattle.bsp_store_base.proofs.Sqlite.{Ghosts, Held, IsQuiet}
+use Rattle.bsp_store_base.proofs.Entries.{as_map, Rows, same_entries}
 use Rattle.bsp_book.specs.Listed.{Holds as ListHolds}
 use Rattle.bsp_book.specs.declared.list.ListBook.{ListBook}
 use Rattle.bsp_store_open.specs.Contents.{KeepsBook}
 use Rattle.bsp_store_open.specs.Faults.{is_refusal}
-use Rattle.bsp_store_open.specs.Opening.{IsOrdered, IsRead, LeavesCommitted, Reopens, version_text}
+use Rattle.bsp_store_open.specs.Opening.{IsOrdered, IsRead, Reopens}
 use Rattle.bsp_store_open.specs.declared.fault.OpenFault.{OpenFault}
 use Rattle.bsp_store_open.specs.declared.fault.OpenFault.TheVariants.{NoRoom}
-use Rattle.bsp_store_open.proofs.Asking.{version_commits_nothing}
 use Rattle.bsp_store_open.proofs.OpeningLemmas.{still_clean}
 use Rattle.bsp_store_save.specs.Kept.{Spares}
-use Rattle.bsp_store.specs.Auditing.{HasNone, IsAuditOf, IsAudited, IsFound, IsSummaryOf, WasRefused, fault_in}
+use Rattle.bsp_store.specs.Auditing.{HasNone, IsAudited, IsFound, IsSummaryOf, WasRefused, fault_in}
 use Rattle.bsp_store.specs.declared.audit.AuditFault.{AuditFault}
 use Rattle.bsp_store.specs.declared.audit.Summary.{Summary}
 

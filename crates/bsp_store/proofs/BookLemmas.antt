@@ -3,7 +3,6 @@ use Rattle.std.proofs.Common.{◌≡◌, false, true, refl, sym, ap, ◌∙◌, 
 use Rattle.bsp_rows.specs.Rows.{Rows}
 use Rattle.bsp_book.specs.Calls.{Answers, FallsBack, Faults, GoesBack, LeavesBegun, LeavesLast, LooksUp, Makes, Meaning, is_failed}
 use Rattle.bsp_book.specs.declared.fault.BookFault.{BookFault}
-use Rattle.bsp_book.specs.declared.fault.BookFault.TheVariants.{Failed}
 use Rattle.bsp_store_open.specs.Formed.{AreFormed}
 use Rattle.bsp_store.specs.Meanings.{IsKeptBook, is_over, meaning}
 use Rattle.bsp_store.specs.declared.book.KeptBook.{KeptBook}

@@ -1,18 +1,14 @@
 -- A commit of a book in tables.
-use Rattle.std.proofs.Common.{◌≡◌, ◌⊎◌, inl, inr, sym, subst, Result, Ok, Err, OnErr, OnOk, Some}
-use Rattle.sqlite_trees.specs.Tree.{Trees}
-use Rattle.sqlite_trees.specs.declared.store.Store.{Ghosts}
-use Rattle.sqlite.specs.Held.{Held}
+use Rattle.std.proofs.Common.{◌≡◌, inl, inr, sym, subst, Result, Ok, Err, OnErr, OnOk, Some}
+use Rattle.bsp_store_base.proofs.Sqlite.{Ghosts, Held, Trees}
 use Rattle.bsp_rows.specs.Rows.{Rows}
 use Rattle.bsp_book.specs.Listed.{Holds as ListHolds, meaning as listed}
 use Rattle.bsp_book.specs.declared.list.ListBook.{ListBook}
 use Rattle.bsp_store_open.specs.Formed.{AreFormed, IsBook}
 use Rattle.bsp_store_open.specs.Opening.{KeepsAtRest}
 use Rattle.bsp_store_save.specs.MemoryRowsTables.{committed_rows, rows_of}
-use Rattle.bsp_store_save.specs.Content.{Content, form}
+use Rattle.bsp_store_base.proofs.Base.{AreTreesOf, Content, form, HasCommitted, HasContents, IsKept}
 use Rattle.bsp_store_save.specs.Contents.{IsContentOf, content_before, content_now}
-use Rattle.bsp_store_save.specs.Kept.{AreTreesOf, HasCommitted, HasContents}
-use Rattle.bsp_store_save.specs.Calls.{IsKept}
 use Rattle.bsp_store_save.specs.Tables.{Tables}
 use Rattle.bsp_store_save.proofs.TallyLemmas.{content_is, one_content}
 use Rattle.bsp_store.specs.Keeping.{HasStopped, IfKept, LeavesOne}

@@ -1,8 +1,7 @@
 -- What is answered of a store, by whether it was opened.
 use Rattle.std.proofs.Common.{◌≡◌, inl, inr, Ok, Err, IfOk, subst}
 use Rattle.std.specs.Prelude.{IfErr, MatchResult, Result}
-use Rattle.sqlite.specs.Held.{Held}
-use Rattle.sqlite.specs.declared.error.Error.{Error}
+use Rattle.bsp_store_base.proofs.Sqlite.{Error, Held}
 use Rattle.bsp_store_open.specs.Faults.{fault_for}
 use Rattle.bsp_store_open.specs.declared.fault.OpenFault.{OpenFault}
 use Rattle.bsp_store.specs.Files.{Answers}

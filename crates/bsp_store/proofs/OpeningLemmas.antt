@@ -1,9 +1,6 @@
 -- An opening from the store that was opened again for it.
-use Rattle.std.proofs.Common.{◌≡◌, false, true, Result, Ok, Err, subst, sym, ◌∙◌}
-use Rattle.std.specs.Prelude.{IsErrAnd}
-use Rattle.std.proofs.lemmas.Bool.{false≢true}
-use Rattle.sqlite_trees.specs.declared.store.Store.{Ghosts}
-use Rattle.sqlite.specs.Held.{Held}
+use Rattle.bsp_store_base.proofs.Std.{◌∙◌, ◌≡◌, Err, false, false≢true, IsErrAnd, Ok, Result, subst, sym}
+use Rattle.bsp_store_base.proofs.Sqlite.{Ghosts, Held}
 use Rattle.bsp_store_open.specs.Faults.{is_refusal}
 use Rattle.bsp_store_open.specs.Opening.{LeavesCommitted}
 use Rattle.bsp_store_open.specs.declared.fault.OpenFault.{OpenFault}

@@ -1,6 +1,5 @@
 -- A store whose log was copied into its main file, and which is not broken, shows what was committed.
-use Rattle.std.proofs.Common.{◌≡◌, ◌≤◌, Bool, false, IsTrue, sym, ap, subst, ◌∙◌, arith}
-use Rattle.std.proofs.lemmas.Bool.{both_ways, true_from_ne_false}
+use Rattle.bsp_store_base.proofs.Std.{◌∙◌, ◌≡◌, ◌≤◌, ap, arith, Bool, both_ways, false, IsTrue, subst, sym, true_from_ne_false}
 use Rattle.sqlite_trees.specs.View.{IsClean, IsRolledBack, View, doubt}
 use Rattle.sqlite.specs.Steps.{IsFresh}
 

@@ -1,28 +1,18 @@
 -- An opening finds what a stop left.
-use Rattle.std.proofs.Common.{◌≡◌, Bool, true, false, None, inl, inr, Result, Ok, Err, IfOk, refl, sym, subst, ◌∙◌}
-use Rattle.std.specs.Prelude.{IfErr, IsErrAnd}
-use Rattle.sqlite_trees.specs.Tree.{Trees}
-use Rattle.sqlite_trees.specs.View.{IsClean}
-use Rattle.sqlite_trees.specs.Objects.{catalog_tree}
-use Rattle.sqlite_trees.specs.declared.store.Store.{Ghosts}
-use Rattle.sqlite_catalog.specs.Listing.{Lists}
+use Rattle.bsp_store_base.proofs.Std.{◌∙◌, ◌≡◌, Bool, Err, false, IfErr, IfOk, inl, inr, None, Ok, refl, Result, subst, sym, true}
+use Rattle.bsp_store_base.proofs.Sqlite.{catalog_tree, Ghosts, HasCleanDisk, Held, IsClean, Lists, state, Trees}
 use Rattle.sqlite_catalog.proofs.ReadLemmas.{lists_once}
-use Rattle.sqlite.specs.Held.{Held, state}
-use Rattle.sqlite.specs.State.{HasCleanDisk}
-use Rattle.bsp_rows.specs.Rows.{Rows}
-use Rattle.bsp_rows.specs.Sound.{Sound}
+use Rattle.bsp_store_base.proofs.Entries.{Rows, Sound}
 use Rattle.bsp_store_open.specs.Faults.{is_refusal}
 use Rattle.bsp_store_open.specs.Formed.{IsBook}
 use Rattle.bsp_store_open.specs.Opening.{Reopens}
-use Rattle.bsp_store_open.specs.Schema.{our_schema}
+use Rattle.bsp_store_base.proofs.Base.{form, KeepsRows, our_schema}
 use Rattle.bsp_store_open.specs.declared.fault.OpenFault.{OpenFault}
 use Rattle.bsp_store_open.proofs.FormedContent.{formed_content}
 use Rattle.bsp_store_open.specs.Migrating.{IsOldBook, KeepsNoOld}
 use Rattle.bsp_store_open.specs.declared.old_versions.OldVersion.{OldVersion}
 use Rattle.bsp_store_open.proofs.OldBookLemmas.{keeps_some, migrated_book, not_this_book, old_ours, only_rows}
 use Rattle.bsp_store_open.proofs.VersionLemmas.{bare_not_ours, old_not_bare, old_not_ours}
-use Rattle.bsp_store_save.specs.Content.{form}
-use Rattle.bsp_store_save.specs.Kept.{KeepsRows}
 use Rattle.bsp_store.specs.Adopting.{Adopts, IsNewBookOf, LeavesWhole, ShowsNone, WasBare, WasNoBook}
 use Rattle.bsp_store.specs.Meanings.{Holds, SqlBook}
 use Rattle.bsp_store.specs.Stops.{FindsBook, FindsRows, IsAnyBook, LeavesRows, OpeningsAreFound, StopsAreFound}

@@ -1,13 +1,8 @@
 -- A whole opening, from what a store that was opened again was made of.
 use Rattle.std.proofs.Common.{◌≡◌, false, true, Result, Ok, Err, IfOk, inl, inr, refl, sym, subst, ◌∙◌}
 use Rattle.std.specs.Prelude.{IfErr, None}
-use Rattle.sqlite_trees.specs.Tree.{Trees}
-use Rattle.sqlite_trees.specs.View.{IsClean}
-use Rattle.sqlite_trees.specs.declared.store.Store.{Ghosts}
-use Rattle.sqlite.specs.Held.{Held, state}
-use Rattle.sqlite.specs.State.{HasCleanDisk}
-use Rattle.bsp_rows.specs.Rows.{no_rows}
-use Rattle.bsp_rows.proofs.KeptLemmas.{no_rows_sound}
+use Rattle.bsp_store_base.proofs.Sqlite.{Ghosts, HasCleanDisk, Held, IsClean, state, Trees}
+use Rattle.bsp_store_base.proofs.Entries.{no_rows, no_rows_sound}
 use Rattle.bsp_store_open.specs.Contents.{KeepsBook}
 use Rattle.bsp_store_open.specs.Faults.{is_refusal}
 use Rattle.bsp_store_open.specs.Opening.{IsOrdered, KeepsOnly, LeavesCommitted, LeavesEmptyBook, Reopens, SparesStore}

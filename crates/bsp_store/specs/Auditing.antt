@@ -1,17 +1,9 @@
 -- What an audit finds in a store.
-use Rattle.std.specs.Prelude.{◌≡◌, ℤ, List, ◌∷◌, length, Result, IfErr, IfOk, IsErrAnd, true}
+use Rattle.std.specs.Prelude.{◌≡◌, IfErr, IfOk, IsErrAnd, length, Result, true}
 use Rattle.std.specs.FinMap.{entries}
-use Rattle.sqlite_value.specs.Order.{Row, column}
-use Rattle.sqlite_value.specs.declared.value.Value.TheVariants.{Int}
+use Rattle.bsp_store_base.specs.Sqlite.{Ghosts, HasCleanDisk, Held, IsClean, over_files, state}
 use Rattle.sqlite_disk.specs.declared.start.Start as starts
-use Rattle.sqlite_trees.specs.View.{IsClean}
-use Rattle.sqlite_trees.specs.declared.store.Store.{Ghosts}
-use Rattle.sqlite.specs.Files.{over_files}
-use Rattle.sqlite.specs.Held.{Held, state}
-use Rattle.sqlite.specs.State.{HasCleanDisk}
-use Rattle.bsp_rows.specs.Published.{Published}
-use Rattle.bsp_rows.specs.Rows.{Rows}
-use Rattle.bsp_rows.specs.Sound.{Sound}
+use Rattle.bsp_store_base.specs.Entries.{Published, Rows, Sound}
 use Rattle.bsp_store_open.specs.Contents.{KeepsBook}
 use Rattle.bsp_store_open.specs.Schema.{our_schema}
 use Rattle.bsp_store_open.specs.Faults.{fault_for, is_refusal}

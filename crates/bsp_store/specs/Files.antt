@@ -12,15 +12,9 @@ use Rattle.sqlite_std_file.specs.File.{IsFresh}
 use Rattle.sqlite_std_file.specs.declared.host.Host.{Host}
 use Rattle.sqlite_store.specs.declared.store.FileStore.{FileStore}
 use Rattle.sqlite_wal.specs.Files.{image_at}
-use Rattle.sqlite.specs.Files.{FailsToOpenFiles, IsCleanLeft, LeavesFiles, file_state}
-use Rattle.sqlite.specs.Held.{Held}
+use Rattle.bsp_store_base.specs.Sqlite.{CannotOpen, DatabaseBusy, Error, FailsToOpenFiles, file_state, Ghosts, HasCleanDisk, Held, IsCleanLeft, LeavesFiles, OutOfMemory, SqliteFailure}
 use Rattle.sqlite.specs.Start.{FindsIn}
-use Rattle.sqlite.specs.State.{HasCleanDisk}
-use Rattle.sqlite.specs.declared.error.Error.{Error}
-use Rattle.sqlite.specs.declared.error.Error.TheVariants.{SqliteFailure}
-use Rattle.sqlite.specs.declared.error.ErrorCode.TheVariants.{CannotOpen, DatabaseBusy, OutOfMemory}
 use Rattle.sqlite.specs.declared.file.Leftover.{Leftover}
-use Rattle.sqlite_trees.specs.declared.store.Store.{Ghosts}
 use Rattle.bsp_store_save.specs.Kept.{Spares}
 
 -- no file was opened, for one of these errors

@@ -1,15 +1,11 @@
 -- What keeps the rows of a book in memory.
 use Rattle.std.specs.Prelude.{◌⊎◌, Some}
-use Rattle.sqlite_trees.specs.Tree.{Trees}
-use Rattle.sqlite_trees.specs.declared.store.Store.{Ghosts}
-use Rattle.sqlite.specs.Held.{Held, state}
-use Rattle.sqlite.specs.State.{HasCleanDisk}
+use Rattle.bsp_store_base.specs.Sqlite.{Ghosts, HasCleanDisk, Held, state, Trees}
 use Rattle.bsp_rows.specs.Rows.{Rows}
 use Rattle.bsp_book.specs.Calls.{Meaning}
 use Rattle.bsp_store_open.specs.Contents.{IsContentOf}
 use Rattle.bsp_store_open.specs.Formed.{AreFormed, IsBook}
-use Rattle.bsp_store_save.specs.Content.{Content, form}
-use Rattle.bsp_store_save.specs.Kept.{HasCommitted}
+use Rattle.bsp_store_base.specs.Base.{Content, form, HasCommitted}
 
 -- where it keeps the rows with which the open transaction of the book began, this holds of them and of the rows now
 abbrev pub IfKept : {L C : Type 0} → Meaning L Rows → (C → Rows → Type 0) → L → C → (Rows → Rows → Type 0) → Type 0

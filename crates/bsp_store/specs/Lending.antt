@@ -1,6 +1,6 @@
 -- What a book ends as, once a reference to its rows in memory has ended.
 use Rattle.std.specs.Prelude.{Result}
-use Rattle.std.specs.Borrow.{Fml, RattleType, MutBor, LendsIfOk}
+use Rattle.std.specs.Borrow.{Fml, LendsIfOk, MutBor, RattleType}
 use Rattle.bsp_book.specs.declared.fault.BookFault.{BookFault}
 use Rattle.bsp_store.specs.declared.book.KeptBook.{KeptBook}
 use Rattle.bsp_store.specs.contracts.book.KeptBook.{the_row}

@@ -1,8 +1,8 @@
 -- What a book in tables contains.
-use Rattle.std.specs.Prelude.{◌≡◌, Bool, false, true, None, Option, unwrap_or, ⊤}
-use Rattle.sqlite_trees.specs.declared.store.Store.{Ghosts}
-use Rattle.sqlite.specs.Held.{Held}
-use Rattle.sqlite.specs.declared.error.Error.{Error}
+use Rattle.std.specs.Prelude.{◌≡◌, ◌⊎◌, Bool, false, true, None, Option, unwrap_or, ⊤}
+use Rattle.bsp_store_base.specs.Sqlite.{Error, Ghosts, Held}
+use Rattle.sqlite.specs.declared.error.Error.TheVariants.{SqliteFailure}
+use Rattle.sqlite.specs.declared.error.ErrorCode.TheVariants.{OutOfMemory, TooBig}
 use Rattle.bsp_rows.specs.Rows.{Rows}
 use Rattle.bsp_book.specs.Calls.{Meaning}
 use Rattle.bsp_book.specs.Listed.{meaning as listed}
@@ -21,6 +21,10 @@ is_over (Failed cause) = true
 abbrev pub cause_of : State → Option Error
 cause_of Works = None
 cause_of (Failed cause) = cause
+
+-- the store has no memory, or a row is too big for it
+abbrev pub IsOfRoom : Error → Type 0
+IsOfRoom error = (error ≡ SqliteFailure OutOfMemory) ⊎ (error ≡ SqliteFailure TooBig)
 
 -- ---- a book in memory, and what keeps its rows
 

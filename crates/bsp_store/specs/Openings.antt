@@ -1,9 +1,7 @@
 -- What an opening answers, of a store and of the files at a path.
 use Rattle.std.specs.Prelude.{◌≡◌, true, Err, IfErr, IfOk, MatchResult, Ok, Result}
 use Rattle.sqlite_disk.specs.declared.start.Start as starts
-use Rattle.sqlite_trees.specs.declared.store.Store.{Ghosts}
-use Rattle.sqlite.specs.Files.{over_files}
-use Rattle.sqlite.specs.Held.{Held}
+use Rattle.bsp_store_base.specs.Sqlite.{Ghosts, Held, over_files}
 use Rattle.bsp_store_open.specs.Faults.{fault_for, is_refusal}
 use Rattle.bsp_store_open.specs.declared.fault.OpenFault.{OpenFault}
 use Rattle.bsp_store.specs.Adopting.{Adopts, LeavesWhole, WasNoBook}

@@ -1,12 +1,7 @@
 -- What an opening finds after a stop.
 use Rattle.std.specs.Prelude.{◌≡◌, ◌⊎◌, false, IfErr, IfOk, None, Result}
-use Rattle.sqlite_trees.specs.Tree.{Trees}
-use Rattle.sqlite_trees.specs.View.{IsClean}
-use Rattle.sqlite_trees.specs.declared.store.Store.{Ghosts}
-use Rattle.sqlite.specs.Held.{Held, state}
-use Rattle.sqlite.specs.State.{HasCleanDisk}
-use Rattle.bsp_rows.specs.Rows.{Rows}
-use Rattle.bsp_rows.specs.Sound.{Sound}
+use Rattle.bsp_store_base.specs.Sqlite.{Ghosts, HasCleanDisk, Held, IsClean, state, Trees}
+use Rattle.bsp_store_base.specs.Entries.{Rows, Sound}
 use Rattle.bsp_store_open.specs.Faults.{is_refusal}
 use Rattle.bsp_store_open.specs.Formed.{IsBook}
 use Rattle.bsp_store_open.specs.declared.fault.OpenFault.{OpenFault}

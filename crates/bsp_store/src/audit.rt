@@ -3,14 +3,13 @@
 ghost use Rattle.std.specs.Prelude.{◌≡◌, Err, IfErr, IfOk, MatchResult, None, true};
 ghost use Rattle.bsp_rows.specs.Rows.{Rows};
 ghost use Rattle.bsp_book.specs.Listed.{Holds as ListHolds};
-ghost use Rattle.bsp_store_save.specs.Kept.{Spares};
+ghost use Rattle.bsp_store_base.specs.Base.{our_schema, Spares};
 ghost use Rattle.bsp_store_open.specs.Faults.{is_refusal};
 ghost use Rattle.bsp_store_open.specs.Opening.{IsOrdered, LeavesCommitted};
-ghost use Rattle.bsp_store_open.specs.Schema.{our_schema};
 ghost use Rattle.bsp_store.specs.Auditing.{HasNone, IsAuditAt, IsAuditOf, IsAudited, IsFound, IsPlanOf, IsSummaryOf, WasRefused, fault_in};
 
 use crate::missing_log::MissingLog;
-use crate::on_files::{Files, OnFiles, on_files};
+use crate::on_files::{OnFiles, on_files};
 use bsp_book::ListBook;
 use bsp_rows::{Day, Plan};
 use bsp_store_damage::{Damage, find_damage};
@@ -259,7 +258,7 @@ fn found_at<T: Start, X: Finding>(rt: &HostRuntime, path: &str, start: T) -> Res
         Ok(log) => log,
         Err(fault) => return Err(AuditFault::Failed(fault)),
     };
-    on_files(rt, path, Files(start), Audit { log })
+    on_files(rt, path, start, Audit { log })
 }
 
 /// Audits the book in the file at a path, with its log beside it. It changes nothing in them, and leaves no log where there

@@ -1,11 +1,11 @@
 //! A book in tables.
 
-ghost use Rattle.std.specs.Prelude.{◌≡◌, ◌⊎◌, ◌↔◌, IsOkUnless, IsTrue, MatchResult, None, OnErr, OnOk, Some, false, true};
+ghost use Rattle.std.specs.Prelude.{◌↔◌, ◌≡◌, Err, false, IsOkUnless, IsSomeAnd, IsTrue, MatchResult, None, OnErr, OnOk, Some, true};
 ghost use Rattle.std.specs.Borrow.{sem};
-ghost use Rattle.bsp_book.specs.Calls.{Commits, FallsBack};
+ghost use Rattle.bsp_book.specs.Calls.{Commits, FallsBack, Faults, LeavesEither};
 ghost use Rattle.bsp_rows.specs.Rows.{HasNumberKey, Rows, key_of};
 ghost use Rattle.bsp_store_open.specs.Formed.{IsFormedItem};
-ghost use Rattle.bsp_store.specs.Meanings.{cause_of, is_over};
+ghost use Rattle.bsp_store.specs.Meanings.{IsOfRoom, cause_of, is_over, meaning};
 
 use crate::keeping::{InMemory, Keeps};
 use bsp_book::{Book, BookFault, ListBook, UsedRange};
@@ -37,6 +37,8 @@ pub struct KeptBook<L, C> {
     list: L,
     conn: C,
     state: State,
+    /// The error of the store for which the last commit that failed was given up.
+    given_up: Option<Error>,
 }
 
 /// A book in tables of `sqlite`.
@@ -47,7 +49,7 @@ pub type SqlBook<S> = KeptBook<ListBook, Connection<S>>;
 
 /// Whether a store had no memory, or a row is too big for it.
 fn is_room(error: &Error) -> bool
-    ensures { IsTrue result ↔ ((error.now ≡ Error.SqliteFailure ErrorCode.OutOfMemory) ⊎ (error.now ≡ Error.SqliteFailure ErrorCode.TooBig)) }
+    ensures { IsTrue result ↔ IsOfRoom error.now }
 {
     matches!(
         error,
@@ -83,6 +85,7 @@ impl<L, C> KeptBook<L, C> {
             list,
             conn,
             state: State::Works,
+            given_up: None,
         }
     }
 
@@ -101,6 +104,13 @@ impl<L, C> KeptBook<L, C> {
             State::Works => None,
             State::Failed(cause) => cause,
         }
+    }
+
+    /// The error of the store for which the last commit that failed was given up. None where none was.
+    pub fn given_up(&self) -> Option<Error>
+        ensures { result ≡ self.now.given_up }
+    {
+        self.given_up
     }
 }
 
@@ -132,10 +142,12 @@ impl<L: InMemory, C: Keeps<L>> KeptBook<L, C> {
     /// used, nothing is left of the transaction. Otherwise the book has failed.
     fn give_up(&mut self, error: Error) -> BookFault
         ensures full { result ≡ BookFault.NoRoom → (self.new.state ≡ self.old.state) × ((last now : Rows) → C.has_stopped self.old.conn last now → C.keeps self.new.conn last) × FallsBack L.Book.means self.old.list self.new.list }
-        ensures room { result ≡ BookFault.NoRoom → (error ≡ Error.SqliteFailure ErrorCode.OutOfMemory) ⊎ (error ≡ Error.SqliteFailure ErrorCode.TooBig) }
+        ensures given_up { self.new.given_up ≡ Some error }
+        ensures room { result ≡ BookFault.NoRoom → IsOfRoom error }
         ensures failed { result ≡ BookFault.Failed → self.new.state ≡ State.Failed (Some error) }
         ensures stop { (last now : Rows) → C.has_stopped self.old.conn last now → C.leaves self.new.conn last now }
     {
+        self.given_up = Some(error);
         let alive = self.conn.recover();
         if alive && is_room(&error) && self.list.roll_back().is_ok() {
             return BookFault::NoRoom;
@@ -187,7 +199,12 @@ impl<L: InMemory, C: Keeps<L>> Book for KeptBook<L, C> {
         self.working()?.begin()
     }
 
-    fn commit(&mut self) -> Result<(), BookFault> {
+    /// `NoRoom` is answered only for an error of the store that is want of memory, or that a row is too big for it.
+    fn commit(&mut self) -> Result<(), BookFault>
+        ensures ok { OnOk result (Commits (meaning L.Book.means C.keeps C.leaves) self.old self.new) }
+        ensures fault { Faults (meaning L.Book.means C.keeps C.leaves) self.old self.new (FallsBack (meaning L.Book.means C.keeps C.leaves) self.old self.new) (LeavesEither (meaning L.Book.means C.keeps C.leaves) self.old self.new) result }
+        ensures room { result ≡ Err BookFault.NoRoom → IsSomeAnd self.new.given_up IsOfRoom }
+    {
         if self.has_failed() {
             return Err(BookFault::Failed);
         }

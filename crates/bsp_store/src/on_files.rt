@@ -1,8 +1,9 @@
 //! The files at a path: opened, and what is done with them then.
 
 ghost use Rattle.std.specs.Prelude.{◌≡◌, Err};
+ghost use Rattle.sqlite.specs.Files.{over_files};
 ghost use Rattle.bsp_store_open.specs.Faults.{fault_for};
-ghost use Rattle.bsp_store.specs.Files.{Answers, FailsToOpen, FindsFiles};
+ghost use Rattle.bsp_store.specs.Files.{Answers, AnswersFiles, FailsToOpen, FindsFiles};
 ghost use Rattle.bsp_store.specs.Openings.{IsOpeningOf};
 
 use crate::book::SqlBook;
@@ -56,8 +57,7 @@ impl<T: Start> Opens<FileStore<FileFrom<T>>, Leftover<FileFrom<T>>> for Files<T>
 /// What is done with a connection that was just opened, if it was, whatever its store is.
 pub(crate) trait OnFiles<F> {
     ghost use Rattle.std.specs.Prelude.{MatchResult};
-    ghost use Rattle.sqlite_trees.specs.declared.store.Store.{Ghosts};
-    ghost use Rattle.sqlite.specs.Held.{Held};
+    ghost use Rattle.bsp_store_base.specs.Sqlite.{Ghosts, Held};
     ghost use Rattle.bsp_store_open.specs.declared.fault.OpenFault.{OpenFault as Fault};
 
     // what is found in a connection
@@ -75,7 +75,7 @@ pub(crate) trait OnFiles<F> {
 }
 
 /// Opens a store at a path, and does something with the connection over it.
-pub(crate) fn on_files<F, S: Alter + Drop, L: Drop, O: Opens<S, L>, J: OnFiles<F>>(
+fn on_store<F, S: Alter + Drop, L: Drop, O: Opens<S, L>, J: OnFiles<F>>(
     rt: &HostRuntime,
     path: &str,
     files: O,
@@ -85,6 +85,19 @@ pub(crate) fn on_files<F, S: Alter + Drop, L: Drop, O: Opens<S, L>, J: OnFiles<F
 {
     let opened = files.open(rt, path);
     job.found(rt, opened)
+}
+
+/// Opens the file at a path, with its log beside it, and does something with the connection over them. `start` says what a
+/// torn write may leave in them.
+pub(crate) fn on_files<F, T: Start, J: OnFiles<F>>(
+    rt: &HostRuntime,
+    path: &str,
+    start: T,
+    job: J,
+) -> F
+    ensures { AnswersFiles T.Start (λ conn. J.is_found _ over_files conn result) (λ error. J.is_failed (fault_for error) result) }
+{
+    on_store(rt, path, Files(start), job)
 }
 
 /// Opens a store at a path as a book.

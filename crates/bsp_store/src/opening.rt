@@ -1,11 +1,7 @@
 //! A store opened as a book.
 
 ghost use Rattle.std.specs.Prelude.{◌≡◌, ◌⊎◌, false, true, Err, IfErr, IfOk, MatchResult, None, Ok};
-ghost use Rattle.sqlite_trees.specs.View.{IsClean};
-ghost use Rattle.sqlite.specs.Held.{Held, state};
-ghost use Rattle.sqlite.specs.Steps.{over_memory};
-ghost use Rattle.sqlite.specs.State.{HasCleanDisk};
-ghost use Rattle.sqlite.specs.Files.{over_files};
+ghost use Rattle.bsp_store_base.specs.Sqlite.{HasCleanDisk, Held, IsClean, over_files, over_memory, state};
 ghost use Rattle.bsp_rows.specs.Rows.{no_rows};
 ghost use Rattle.bsp_store_open.specs.Schema.{no_schema};
 ghost use Rattle.bsp_store_open.specs.Faults.{fault_for, is_refusal};
@@ -272,5 +268,5 @@ impl OnFiles<Result<Damage, OpenFault>> for Search {
 pub fn damage_at<T: Start>(rt: &HostRuntime, path: &str, start: T) -> Result<Damage, OpenFault>
     ensures search { AnswersFiles T.Start (IsSpared over_files) (λ error. result ≡ Err (fault_for error)) }
 {
-    on_files(rt, path, Files(start), Search)
+    on_files(rt, path, start, Search)
 }

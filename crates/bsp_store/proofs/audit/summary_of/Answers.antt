@@ -1,10 +1,6 @@
-use Rattle.std.proofs.Common.{◌≡◌, length}
+use Rattle.bsp_store_base.proofs.Std.{◌≡◌, entries, length, nat_cmp, nat_cmp-IsAntisymmetric}
 use Rattle.std.proofs.lemmas.Cmp.{nat_cmp_total}
-use Rattle.std.specs.FinMap.{entries, nat_cmp-IsAntisymmetric}
-use Rattle.bsp_book.specs.Rows.{item_cmp, memo_cmp}
-use Rattle.std.specs.Ordering.{nat_cmp}
-use Rattle.bsp_rows.proofs.KeyOrders.{item_exact, item_total, memo_exact, memo_total}
-use Rattle.bsp_rows.specs.Audit.{as_map}
+use Rattle.bsp_store_base.proofs.Entries.{as_map, item_cmp, item_exact, item_total, memo_cmp, memo_exact, memo_total}
 use Rattle.bsp_store.proofs.AuditingLemmas.{entry_count, summary_is}
 use Rattle.bsp_store.proofs.audit.summary_of.Goals as goal
 

@@ -1,6 +1,5 @@
 use Rattle.std.proofs.Common.{inl, inr, refl}
-use Rattle.sqlite.specs.declared.error.Error.TheVariants.{SqliteFailure}
-use Rattle.sqlite.specs.declared.error.ErrorCode.TheVariants.{CannotOpen, OutOfMemory}
+use Rattle.bsp_store_base.specs.Sqlite.{CannotOpen, OutOfMemory, SqliteFailure}
 use Rattle.bsp_store.proofs.missing_log.fault_of.Goals as goal
 
 pub returns-in-OutOfMemory : goal.returns-in-OutOfMemory

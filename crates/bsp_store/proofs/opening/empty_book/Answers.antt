@@ -1,6 +1,5 @@
 use Rattle.std.proofs.Common.{subst}
-use Rattle.sqlite.specs.Held.{state}
-use Rattle.sqlite.specs.State.{HasCleanDisk}
+use Rattle.bsp_store_base.proofs.Sqlite.{HasCleanDisk, state}
 use Rattle.bsp_rows.specs.Rows.{no_rows}
 use Rattle.bsp_store_open.specs.Opening.{LeavesCommitted}
 use Rattle.bsp_store_open.proofs.OpeningLemmas.{given_up, left_committed, passed_on}

@@ -1,5 +1,4 @@
-use Rattle.std.proofs.Common.{◌≡◌, false, IsTrue, sym, ◌∙◌, rules}
-use Rattle.std.proofs.lemmas.Bool.{both_ways}
+use Rattle.bsp_store_base.proofs.Std.{◌∙◌, ◌≡◌, both_ways, false, IsTrue, rules, sym}
 use Rattle.bsp_store_open.proofs.OpeningLemmas.{given_up, still_clean}
 use Rattle.bsp_store.proofs.AdoptingLemmas.{book_found}
 use Rattle.bsp_store.proofs.opening.kept_book.Goals as goal

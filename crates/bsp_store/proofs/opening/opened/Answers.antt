@@ -1,5 +1,4 @@
-use Rattle.std.proofs.Common.{◌≡◌, false, IsTrue, rules, sym, ◌∙◌}
-use Rattle.std.proofs.lemmas.Bool.{both_ways}
+use Rattle.bsp_store_base.proofs.Std.{◌∙◌, ◌≡◌, both_ways, false, IsTrue, rules, sym}
 use Rattle.bsp_store.proofs.WholeLemmas.{bare_made, kept_made, migrated_made}
 use Rattle.bsp_store.proofs.opening.opened.Goals as goal
 

@@ -1,5 +1,4 @@
-use Rattle.bsp_rows.specs.Rows.{item_at, key_of}
-use Rattle.bsp_rows.specs.Writes.{IsFree, with_item}
+use Rattle.bsp_store_base.proofs.Entries.{IsFree, item_at, key_of, with_item}
 use Rattle.bsp_store_open.proofs.FormedContent.{item_formed}
 use Rattle.bsp_store.proofs.BookLemmas.{written}
 use Rattle.bsp_store.proofs.book.KeptBookBook.add_item.Goals as goal

@@ -1,6 +1,5 @@
 use Rattle.std.proofs.Common.{rules}
-use Rattle.bsp_rows.specs.Rows.{memo_at, memo_key}
-use Rattle.bsp_rows.specs.Writes.{IsFree, with_memo}
+use Rattle.bsp_store_base.proofs.Entries.{IsFree, memo_at, memo_key, with_memo}
 use Rattle.bsp_store_open.specs.Formed.{IsFormedMemo}
 use Rattle.bsp_store_open.proofs.FormedContent.{memo_formed}
 use Rattle.bsp_store.proofs.BookLemmas.{written}

@@ -1,6 +1,5 @@
 use Rattle.std.proofs.Common.{subst}
-use Rattle.bsp_rows.specs.Writes.{MayBeAdded, with_range}
-use Rattle.bsp_rows.specs.declared.keys.RangeKey.{RangeKey}
+use Rattle.bsp_store_base.proofs.Entries.{MayBeAdded, RangeKey, with_range}
 use Rattle.bsp_store_open.specs.Forms.{IsRangeEntry}
 use Rattle.bsp_store_open.proofs.FormedContent.{range_formed}
 use Rattle.bsp_store.proofs.BookLemmas.{written}

@@ -1,5 +1,4 @@
-use Rattle.bsp_rows.specs.Rows.{memo_at}
-use Rattle.bsp_rows.specs.Writes.{MayBeBilled, with_billing}
+use Rattle.bsp_store_base.proofs.Entries.{MayBeBilled, memo_at, with_billing}
 use Rattle.bsp_store_open.proofs.FormedContent.{billing_formed}
 use Rattle.bsp_store.proofs.BookLemmas.{written}
 use Rattle.bsp_store.proofs.book.KeptBookBook.bill.Goals as goal

@@ -1,8 +1,6 @@
 use Rattle.std.proofs.Common.{◌<◌, ◌^◌, length, subst}
 use Rattle.std.specs.Prelude.{Some}
-use Rattle.bsp_rows.specs.History.Request.{Close}
-use Rattle.bsp_rows.specs.Published.{Published}
-use Rattle.bsp_rows.specs.Writes.{after_request, request_answer}
+use Rattle.bsp_store_base.proofs.Entries.{after_request, Close, Published, request_answer}
 use Rattle.bsp_store_open.proofs.FormedContent.{close_formed, plan_formed}
 use Rattle.bsp_store.proofs.BookLemmas.{answered}
 use Rattle.bsp_store.proofs.book.KeptBookBook.close.Goals as goal

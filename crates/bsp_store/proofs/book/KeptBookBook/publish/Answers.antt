@@ -1,7 +1,6 @@
 use Rattle.std.proofs.Common.{subst}
 use Rattle.std.specs.Prelude.{Some}
-use Rattle.bsp_rows.specs.History.Request.{Publish}
-use Rattle.bsp_rows.specs.Writes.{after_request, request_answer}
+use Rattle.bsp_store_base.proofs.Entries.{after_request, Publish, request_answer}
 use Rattle.bsp_store_open.specs.Formed.{IsFormedPublished}
 use Rattle.bsp_store_open.proofs.FormedContent.{plan_formed}
 use Rattle.bsp_store.proofs.BookLemmas.{answered}

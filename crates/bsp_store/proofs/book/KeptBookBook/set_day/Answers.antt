@@ -1,5 +1,4 @@
-use Rattle.bsp_rows.specs.History.Request.{SetDay}
-use Rattle.bsp_rows.specs.Writes.{after_request, request_answer}
+use Rattle.bsp_store_base.proofs.Entries.{after_request, request_answer, SetDay}
 use Rattle.bsp_store_open.proofs.FormedContent.{day_formed, plan_formed}
 use Rattle.bsp_store.proofs.BookLemmas.{answered}
 use Rattle.bsp_store.proofs.book.KeptBookBook.set_day.Goals as goal
