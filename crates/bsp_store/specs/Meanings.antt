@@ -1,14 +1,14 @@
 -- What a book in tables contains.
-use Rattle.std.specs.Prelude.{◌≡◌, ◌⊎◌, Bool, false, true, None, Option, unwrap_or, ⊤}
+use Rattle.std.specs.Prelude.{◌≡◌, Bool, false, true, None, Option, unwrap_or, ⊤}
 use Rattle.bsp_store_base.specs.Sqlite.{Error, Ghosts, Held}
-use Rattle.sqlite.specs.declared.error.Error.TheVariants.{SqliteFailure}
-use Rattle.sqlite.specs.declared.error.ErrorCode.TheVariants.{OutOfMemory, TooBig}
 use Rattle.bsp_rows.specs.Rows.{Rows}
 use Rattle.bsp_book.specs.Calls.{Meaning}
 use Rattle.bsp_book.specs.Listed.{meaning as listed}
 use Rattle.bsp_book.specs.declared.list.ListBook.{ListBook}
+use Rattle.bsp_store_open.specs.Faults.{fault_for}
 use Rattle.bsp_store_open.specs.Formed.{AreFormed}
 use Rattle.bsp_store_open.specs.Opening.{KeepsAtRest}
+use Rattle.bsp_store_open.specs.declared.fault.OpenFault.TheVariants.{NoRoom}
 use Rattle.bsp_store.specs.declared.book.KeptBook.{KeptBook}
 use Rattle.bsp_store.specs.declared.book.State.{State}
 use Rattle.bsp_store.specs.declared.book.State.TheVariants.{Failed, Works}
@@ -22,9 +22,9 @@ abbrev pub cause_of : State → Option Error
 cause_of Works = None
 cause_of (Failed cause) = cause
 
--- the store has no memory, or a row is too big for it
+-- the store has no memory, or a row is too big for it: B01 at an opening
 abbrev pub IsOfRoom : Error → Type 0
-IsOfRoom error = (error ≡ SqliteFailure OutOfMemory) ⊎ (error ≡ SqliteFailure TooBig)
+IsOfRoom error = fault_for error ≡ NoRoom
 
 -- ---- a book in memory, and what keeps its rows
 

@@ -14,10 +14,10 @@ use bsp_rows::{
     Plan, PlanFault, PlanText, Range, RangeKey, Tallies, Tally, TallyKey, Token, Transaction,
 };
 use bsp_store_open::{
-    formed_agent, formed_airline, formed_closed, formed_day, formed_item, formed_memo,
+    OpenFault, formed_agent, formed_airline, formed_closed, formed_day, formed_item, formed_memo,
     formed_period, formed_plan, formed_range,
 };
-use sqlite::{Connection, Error, ErrorCode};
+use sqlite::{Connection, Error};
 use std::alloc::Global;
 
 /// Whether a book can be used.
@@ -51,10 +51,7 @@ pub type SqlBook<S> = KeptBook<ListBook, Connection<S>>;
 fn is_room(error: &Error) -> bool
     ensures { IsTrue result ↔ IsOfRoom error.now }
 {
-    matches!(
-        error,
-        Error::SqliteFailure(ErrorCode::OutOfMemory | ErrorCode::TooBig)
-    )
+    matches!(OpenFault::from(*error), OpenFault::NoRoom)
 }
 
 /// The second of two values. The first is dropped.
@@ -199,7 +196,7 @@ impl<L: InMemory, C: Keeps<L>> Book for KeptBook<L, C> {
         self.working()?.begin()
     }
 
-    /// `NoRoom` is answered only for an error of the store that is want of memory, or that a row is too big for it.
+    /// Where `NoRoom` is answered, the error in `given_up` is one that an opening answers with B01.
     fn commit(&mut self) -> Result<(), BookFault>
         ensures ok { OnOk result (Commits (meaning L.Book.means C.keeps C.leaves) self.old self.new) }
         ensures fault { Faults (meaning L.Book.means C.keeps C.leaves) self.old self.new (FallsBack (meaning L.Book.means C.keeps C.leaves) self.old self.new) (LeavesEither (meaning L.Book.means C.keeps C.leaves) self.old self.new) result }
