@@ -1,6 +1,6 @@
 -- Which fault a body has.
 use Rattle.std.specs.Prelude.{◌≡◌, ℕ, List, Bool, true, false, Option, Some, None, Result, Ok, Err}
-use Rattle.bsp_records.specs.Lines.{lines}
+use Rattle.bsp_fields.specs.Lines.{lines}
 use Rattle.bsp_ret.specs.Ret.{File, Ret}
 use Rattle.bsp_ret.specs.Table.{first_fault}
 use Rattle.bsp_calendar.specs.PlanDocument.{PlanData, plan_reading}

@@ -6,7 +6,7 @@ ghost use Rattle.bsp_calendar.specs.Letters.{currency_reading};
 use std::marker::Model;
 
 /// The code of a currency: three letters `A` to `Z` (ISO 4217). A contract sees it as the letters.
-#[derive(Clone, Copy, Debug, PartialEq, Eq)]
+#[derive(Clone, Copy, PartialEq, Eq)]
 pub struct Currency {
     letters: [u8; 3],
 }

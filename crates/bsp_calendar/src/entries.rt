@@ -4,7 +4,7 @@ use crate::currency::Currency;
 use bsp_fields::{AirlineCode, Day, PeriodCode};
 
 /// What holds for the whole market.
-#[derive(Clone, Copy, Debug, PartialEq, Eq, Drop)]
+#[derive(Clone, Copy, PartialEq, Eq, Drop)]
 pub struct Terms {
     /// The currency of every amount.
     pub currency: Currency,
@@ -15,7 +15,7 @@ pub struct Terms {
 }
 
 /// An airline's rate of commission from a day on.
-#[derive(Clone, Copy, Debug, PartialEq, Eq, Drop)]
+#[derive(Clone, Copy, PartialEq, Eq, Drop)]
 pub struct Rate {
     /// The airline that pays it.
     pub airline: AirlineCode,
@@ -26,7 +26,7 @@ pub struct Rate {
 }
 
 /// The tax on commission from a day on.
-#[derive(Clone, Copy, Debug, PartialEq, Eq, Drop)]
+#[derive(Clone, Copy, PartialEq, Eq, Drop)]
 pub struct CommissionTax {
     /// The first day on which it holds.
     pub from: Day,
@@ -35,7 +35,7 @@ pub struct CommissionTax {
 }
 
 /// A billing period.
-#[derive(Clone, Copy, Debug, PartialEq, Eq, Drop)]
+#[derive(Clone, Copy, PartialEq, Eq, Drop)]
 pub struct Period {
     /// Its code.
     pub code: PeriodCode,
@@ -48,7 +48,7 @@ pub struct Period {
 }
 
 /// The entries of a plan text, each list in the order of the text.
-#[derive(Debug, Drop)]
+#[derive(Drop)]
 pub struct PlanText {
     /// Currency, review days and documents limit.
     pub terms: Terms,

@@ -2,7 +2,7 @@
 use Rattle.std.proofs.Common.{◌≡◌, ℕ, ◌+◌, ◌-◌, ◌^◌, ◌<◌, List, [], ◌∷◌, ◌++◌, length, take, drop, Some, None, refl, sym, ap, subst, ◌∙◌, arith}
 use Rattle.std.proofs.lemmas.List.{append-nil}
 use Rattle.std.proofs.Math.Seq.{drop-append_seam}
-use Rattle.bsp_records.specs.Lines.{lines}
+use Rattle.bsp_fields.specs.Lines.{lines}
 use Rattle.bsp_hot_check.proofs.HotRecordsSizeLemmas.{no_small}
 use Rattle.bsp_hot_check.specs.declared.model.Standing.{Standing}
 use Rattle.bsp_hot_check.specs.Standings.{start, IsSmall}
@@ -13,7 +13,7 @@ use Rattle.bsp_hot_check.proofs.StateLemmas.{stands_nil, stands_line, stands_cou
 use Rattle.bsp_explain.specs.Lines.{IsLine}
 use Rattle.bsp_hot_explain.specs.declared.explanation.HotExplanation.{HotExplanation}
 use Rattle.bsp_hot_explain.specs.HotReasons.{SaysOfHot, record_name}
-use Rattle.bsp_hot_list.specs.Taken.{IsListOfFew}
+use Rattle.bsp_check.specs.HotListing.{IsListOfFew}
 use Rattle.bsp_check.specs.declared.listing.Listing.{Listing}
 use Rattle.bsp_check.specs.Verdicts.{SaysOfHotFault}
 use Rattle.bsp_check.specs.Judging.{IsAfterFew, HasTakenMore}

@@ -4,8 +4,8 @@ use Rattle.std.proofs.lemmas.List.{append-nil, length-append, length-take-le, ta
 use Rattle.std.proofs.lemmas.Bool.{false≢true}
 use Rattle.std.specs.Io.KnownBytes.{Consumes, IsAtEnd}
 use Rattle.std.proofs.KnownBytes.{Consumes-nil, Consumes-trans}
-use Rattle.bsp_records.specs.Lines.{lines}
-use Rattle.bsp_records.proofs.CutLemmas.{some_lines, lines_nil}
+use Rattle.bsp_fields.specs.Lines.{lines}
+use Rattle.bsp_fields.proofs.CutLemmas.{some_lines, lines_nil}
 use Rattle.bsp_explain.specs.Lines.{IsLine}
 use Rattle.bsp_check.specs.declared.fault.Fault.{Fault}
 use Rattle.bsp_check.specs.declared.window.Window.{Window}

@@ -8,3 +8,5 @@ pub mod LineLemmas
 pub mod TakingLemmas
 pub mod JudgingLemmas
 pub mod HotLemmas
+pub mod HotListLemmas
+pub mod TextLemmas

@@ -5,7 +5,7 @@ use Rattle.std.proofs.lemmas.List.{append-nil, length-append, length-take-le, ta
 use Rattle.std.specs.Io.KnownBytes.{Consumes, IsAtEnd}
 use Rattle.std.proofs.KnownBytes.{Consumes-trans}
 use Rattle.bsp_ret.specs.Lines.{lines, begins_with, with_first, has_end, BeginsWithLine}
-use Rattle.bsp_records.proofs.CutLemmas.{some_lines, first_ended}
+use Rattle.bsp_fields.proofs.CutLemmas.{some_lines, first_ended}
 use Rattle.bsp_hot_check.proofs.PieceLemmas.{ended_goes}
 use Rattle.bsp_explain.specs.Lines.{IsLine}
 use Rattle.bsp_check.specs.declared.window.Window.{Window}

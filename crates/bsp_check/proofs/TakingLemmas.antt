@@ -5,9 +5,9 @@ use Rattle.std.proofs.lemmas.List.{append-nil, length-append, take-append-drop}
 use Rattle.std.specs.Prelude.{IfSome, IfNone}
 use Rattle.std.specs.Io.KnownBytes.{Consumes}
 use Rattle.std.proofs.KnownBytes.{Consumes-nil, Consumes-trans}
-use Rattle.bsp_records.specs.Columns.{is_wide}
-use Rattle.bsp_records.specs.Lines.{lines, before_rest, HasFirstLine, BeginsOtherwise}
-use Rattle.bsp_records.proofs.RestLemmas.{rest_itself, rest_of_rest}
+use Rattle.bsp_fields.specs.Columns.{is_wide}
+use Rattle.bsp_fields.specs.Lines.{lines, before_rest, HasFirstLine, BeginsOtherwise}
+use Rattle.bsp_fields.proofs.RestLemmas.{rest_itself, rest_of_rest}
 use Rattle.bsp_hot_check.proofs.PieceLemmas.{line_room, Goes, goes_on, ended_goes, ended_wide, wide_long}
 use Rattle.bsp_check.specs.declared.fault.Fault.{Fault}
 use Rattle.bsp_check.specs.declared.window.Window.{Window}

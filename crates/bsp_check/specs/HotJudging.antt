@@ -1,13 +1,13 @@
 -- What a HOT file is judged to be, while it is read.
 use Rattle.std.specs.Prelude.{◌≡◌, ℕ, List, Some}
-use Rattle.bsp_records.specs.Lines.{lines}
+use Rattle.bsp_fields.specs.Lines.{lines}
 use Rattle.bsp_hot_check.specs.declared.model.Standing.{Standing}
 use Rattle.bsp_hot_check.specs.Standings.{start, IsSmall}
 use Rattle.bsp_hot_check.specs.Checked.{HasTotals}
 use Rattle.bsp_hot_check.specs.Judging.{stands_after}
 use Rattle.bsp_hot_explain.specs.declared.explanation.HotExplanation.{HotExplanation}
 use Rattle.bsp_hot_explain.specs.Headings.{heading_in}
-use Rattle.bsp_hot_list.specs.Taken.{IsListOf}
+use Rattle.bsp_check.specs.HotListing.{IsListOf}
 use Rattle.bsp_check.specs.declared.listing.Listing.{Listing}
 use Rattle.bsp_check.specs.declared.hot_judging.HotAnswer.{HotAnswer}
 use Rattle.bsp_check.specs.declared.hot_judging.HotAnswer.TheVariants.{Passed, Refused}

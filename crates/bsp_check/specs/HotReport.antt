@@ -6,7 +6,7 @@ use Rattle.bsp_ret.specs.Lines.{lines}
 use Rattle.bsp_hot_check.specs.declared.model.HotTotals.{HotTotals}
 use Rattle.bsp_hot_check.specs.Hot.{IsFirstFault}
 use Rattle.bsp_hot_check.specs.Checked.{HasTotals}
-use Rattle.bsp_hot_list.specs.Listed.{list_text}
+use Rattle.bsp_check.specs.HotLines.{list_text}
 
 -- the line of a file with these totals
 abbrev pub totals_text : HotTotals → List ℕ

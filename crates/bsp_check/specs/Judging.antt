@@ -1,7 +1,7 @@
 -- Lines that are judged one after another.
 use Rattle.std.specs.Prelude.{◌≡◌, ◌<◌, ◌≤◌, ◌+◌, ◌*◌, ◌^◌, ℕ, Bool, true, false, List, [], ◌∷◌, ◌++◌, length, Option, Some, None}
 use Rattle.std.specs.Io.KnownBytes.{Consumes, IsAtEnd}
-use Rattle.bsp_records.specs.Lines.{lines, IsRest}
+use Rattle.bsp_fields.specs.Lines.{lines, IsRest}
 use Rattle.bsp_explain.specs.Lines.{IsLine}
 use Rattle.bsp_check.specs.declared.window.Window.{Window}
 use Rattle.bsp_check.specs.Windows.{text_of, last_of, MayFollow, IsWindow}

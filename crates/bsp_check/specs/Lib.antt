@@ -9,3 +9,5 @@ pub mod Inputs
 pub mod RetReport
 pub mod RetJudging
 pub mod HotReport
+pub mod HotLines
+pub mod HotListing

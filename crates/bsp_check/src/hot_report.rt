@@ -3,20 +3,20 @@
 ghost use Rattle.std.specs.Prelude.{◌≡◌, ◌++◌, ℕ, Bool, List, true, false, IfOk, string_bytes};
 ghost use Rattle.bsp_ret.specs.Lines.{lines};
 ghost use Rattle.bsp_check.specs.HotReport.{totals_text, fault_text, list_before, IsHotReport};
-ghost use Rattle.bsp_hot_list.specs.Taken.{IsListOf, IsListOfFew};
+ghost use Rattle.bsp_check.specs.HotListing.{IsListOf, IsListOfFew};
 ghost use Rattle.bsp_check.specs.HotJudging.{HasListed, IsHotAnswer};
 ghost use Rattle.bsp_check.specs.Judging.{IsAfterFew};
 ghost use Rattle.bsp_check.specs.Inputs.{IsReportOn};
 ghost use Rattle.bsp_check.specs.Verdicts.{IsHotExplained, SaysOfHotFault};
 
 use crate::hot_judging::{HotAnswer, end_answer};
+use crate::hot_list::HotList;
 use crate::listing::Listing;
 use crate::report::Report;
 use crate::verdict::{Explanation, Verdict};
 use bsp_fields::{NoRoom, write_money};
 use bsp_hot_check::HotTotals;
 use bsp_hot_explain::HotExplanation;
-use bsp_hot_list::HotList;
 use std::alloc::Global;
 
 /// The line of a file with these totals.

@@ -2,8 +2,8 @@
 
 ghost use Rattle.std.specs.Prelude.{◌≡◌, ◌<◌, ◌≤◌, ◌++◌, [], ◌∷◌, ℕ, List, true, false, length, Err, IfOk, IfErr, IfSome, IfNone};
 ghost use Rattle.std.specs.Io.KnownBytes.{IsAtEnd, Consumes};
-ghost use Rattle.bsp_records.specs.Columns.{is_wide};
-ghost use Rattle.bsp_records.specs.Lines.{lines};
+ghost use Rattle.bsp_fields.specs.Columns.{is_wide};
+ghost use Rattle.bsp_fields.specs.Lines.{lines};
 ghost use Rattle.bsp_explain.specs.Lines.{IsLine};
 ghost use Rattle.bsp_check.specs.declared.verdict.Verdict.{Verdict};
 ghost use Rattle.bsp_check.specs.Inputs.{IsReportOn, IsUnread};

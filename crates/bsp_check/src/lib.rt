@@ -8,6 +8,8 @@
 mod checking;
 mod fault;
 mod hot_judging;
+mod hot_lines;
+mod hot_list;
 mod hot_report;
 mod judging;
 mod listing;

@@ -3,13 +3,13 @@
 ghost use Rattle.std.specs.Prelude.{[]};
 ghost use Rattle.bsp_check.specs.HotJudging.{HasListed};
 
+use crate::hot_list::HotList;
 use crate::hot_report::{listed_report, refusal_report};
 use crate::judging::Judge;
 use crate::report::Report;
 use bsp_fields::NoRoom;
 use bsp_hot_check::Standing;
 use bsp_hot_explain::{HotExplanation, explain_line, explain_long};
-use bsp_hot_list::HotList;
 use std::alloc::Global;
 
 /// The records of a HOT file that were taken, and their list.

@@ -9,7 +9,7 @@ ghost use Rattle.bsp_check.specs.Widths.{HasWidth};
 
 use crate::fault::Fault;
 use crate::window::Window;
-use bsp_records::{ended_line, first_line};
+use bsp_fields::{ended_line, first_line};
 use bsp_streams::Noted;
 use std::io::Read;
 

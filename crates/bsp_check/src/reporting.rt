@@ -1,7 +1,7 @@
 //! The report on an input that is judged while it is read.
 
 ghost use Rattle.std.specs.Prelude.{◌≡◌, ◌<◌, [], ℕ, List, true, None, Err, IfOk, IfErr};
-ghost use Rattle.bsp_records.specs.Lines.{lines};
+ghost use Rattle.bsp_fields.specs.Lines.{lines};
 ghost use Rattle.bsp_check.specs.Inputs.{IsInputReport, IsReportOn, IsUnread};
 ghost use Rattle.bsp_check.specs.Judging.{IsAfterFew, IsJudged};
 

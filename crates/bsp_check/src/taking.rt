@@ -7,8 +7,7 @@ ghost use Rattle.bsp_check.specs.Windows.{text_of, IsWindow, Stops};
 use crate::fault::Fault;
 use crate::judging::Judge;
 use crate::window::Window;
-use bsp_fields::NoRoom;
-use bsp_records::first_record;
+use bsp_fields::{NoRoom, first_record};
 use bsp_streams::Noted;
 use std::io::Read;
 

@@ -7,8 +7,8 @@ use Rattle.std.specs.Str.{all_ascii_digits}
 use Rattle.std.proofs.Math.Seq.{take-add}
 use Rattle.std.proofs.lemmas.List.{drop-take, take-take}
 use Rattle.std.proofs.lemmas.List.Folds.{list_all-append}
-use Rattle.bsp_records.specs.Columns.{columns}
-use Rattle.bsp_records.proofs.CharacterLemmas.{digits_are}
+use Rattle.bsp_fields.specs.Columns.{columns}
+use Rattle.bsp_fields.proofs.CharacterLemmas.{digits_are}
 
 -- what is cut out of a part of a text is a part of the text
 cut_inside : (xs : List ℕ) (skipped width inner n : ℕ) → inner + n ≤ width → take n (drop inner (take width (drop skipped xs))) ≡ take n (drop (skipped + inner) xs)

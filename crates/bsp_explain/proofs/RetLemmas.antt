@@ -5,8 +5,8 @@ use Rattle.std.specs.List.{list_all}
 use Rattle.std.specs.Str.{bytes_eq, all_ascii_digits}
 use Rattle.std.proofs.Math.Bool.{and_assoc, and-true}
 use Rattle.std.proofs.lemmas.Bool.{cases_Bool}
-use Rattle.bsp_records.specs.Columns.{columns, identifier, is_letter, is_letter_or_digit, is_space}
-use Rattle.bsp_records.specs.Fields.{spells_at_most, is_amount, is_total, is_record_day}
+use Rattle.bsp_fields.specs.Columns.{columns, identifier, is_letter, is_letter_or_digit, is_space}
+use Rattle.bsp_fields.specs.Fields.{spells_at_most, is_amount, is_total, is_record_day}
 use Rattle.bsp_ret_records.specs.Records.{profile_of, is_header, is_production, header_fits, code_of, sale_fits, related_fits, amounts_fit, form_of, form_fits, payment_amount, vendor, vendor_fits, trailer_fits}
 use Rattle.bsp_explain.specs.declared.form.Form.TheVariants as form
 use Rattle.bsp_explain.specs.Fields.{fits, all_fit, is_transaction_code, is_form_of_payment}

@@ -3,8 +3,8 @@ use Rattle.std.proofs.Common.{◌≡◌, ◌≢◌, ℕ, ◌+◌, Bool, true, fa
 use Rattle.std.specs.Prelude.{◌==◌}
 use Rattle.std.proofs.lemmas.Bool.{cases_Bool, and_parts, and_right, not-false, eqb-true}
 use Rattle.bsp_fields.specs.FirstFault.{first_fault_or}
-use Rattle.bsp_records.specs.Columns.{identifier, is_wide}
-use Rattle.bsp_records.specs.Fields.{spells}
+use Rattle.bsp_fields.specs.Columns.{identifier, is_wide}
+use Rattle.bsp_fields.specs.Fields.{spells}
 use Rattle.bsp_ret_records.specs.Records.{transaction_number, is_header, is_production, header_fits, sale_fits, related_order, related_fits, amounts_fit, form_of, form_fits, trailer_fits}
 use Rattle.bsp_ret.specs.declared.model.FaultCode.{FaultCode}
 use Rattle.bsp_ret.specs.declared.model.FaultCode.TheVariants.{F01, F02, F03, F04, F05, F06, F07, F09}

@@ -4,9 +4,9 @@ use Rattle.std.specs.Prelude.{if◌then◌else◌, nat_lt}
 use Rattle.std.specs.Option.{option_or}
 use Rattle.std.specs.List.{list_all}
 use Rattle.std.proofs.lemmas.Bool.{cases_Bool}
-use Rattle.bsp_records.specs.Columns.{columns, is_letter_or_digit, is_space}
-use Rattle.bsp_records.specs.Fields.{is_amount}
-use Rattle.bsp_records.specs.Taxes.{tax_code, tax_places, taxes_fit}
+use Rattle.bsp_fields.specs.Columns.{columns, is_letter_or_digit, is_space}
+use Rattle.bsp_fields.specs.Fields.{is_amount}
+use Rattle.bsp_fields.specs.Taxes.{tax_code, tax_places, taxes_fit}
 use Rattle.bsp_explain.specs.declared.field.Field.{Field}
 use Rattle.bsp_explain.specs.Fields.{fits, all_fit, first_unfit}
 use Rattle.bsp_explain.specs.TaxFields.{place_first, place_at, is_after_unused, code_before, used_place_fields, unused_place_fields, place_fields, places_from, tax_fields}

@@ -3,7 +3,7 @@ use Rattle.std.proofs.Common.{◌≡◌, ℕ, ◌+◌, ◌-◌, ◌<◌, true, f
 use Rattle.std.specs.List.{list_all}
 use Rattle.std.proofs.Math.Seq.{take-length}
 use Rattle.std.proofs.lemmas.List.Folds.{list_all_at, list_all_more}
-use Rattle.bsp_records.specs.Columns.{is_printable}
+use Rattle.bsp_fields.specs.Columns.{is_printable}
 use Rattle.bsp_explain.specs.Reasons.{IsUnprintable}
 
 pub unprintable_at : (line : List ℕ) (index : ℕ) → length line ≡ 136 → index < 136 → is_printable (get_or line index 0) ≡ false → list_all is_printable (take index line) ≡ true → IsUnprintable line (index + 1) (get_or line index 0) × (list_all is_printable line ≡ false)

@@ -2,9 +2,9 @@
 use Rattle.std.specs.Prelude.{◌≡◌, ℕ, ◌-◌, ◌≤◌, nat_le, nat_lt, Bool, true, false, not, ◌&&◌, ◌||◌, List, Option, codes}
 use Rattle.std.specs.List.{list_all, find}
 use Rattle.std.specs.Str.{all_ascii_digits, bytes_eq}
-use Rattle.bsp_records.specs.Columns.{columns, is_letter, is_letter_or_digit, is_space}
-use Rattle.bsp_records.specs.Fields.{spells_at_most, is_amount, is_total, is_record_day}
-use Rattle.bsp_records.specs.Taxes.{tax_code}
+use Rattle.bsp_fields.specs.Columns.{columns, is_letter, is_letter_or_digit, is_space}
+use Rattle.bsp_fields.specs.Fields.{spells_at_most, is_amount, is_total, is_record_day}
+use Rattle.bsp_fields.specs.Taxes.{tax_code}
 use Rattle.bsp_explain.specs.declared.form.Form.{Form}
 use Rattle.bsp_explain.specs.declared.form.Form.TheVariants.{HeaderMark, Profile, Production, ProductionProfile, Letters, LettersOrDigits, Digits, AtMost, Day, Amount, Total, TransactionCode, DocumentCode, FormOfPayment, Above, Spaces, Unused}
 use Rattle.bsp_explain.specs.declared.name.Name.{Name}

@@ -1,7 +1,7 @@
 -- What a reason says of a record.
 use Rattle.std.specs.Prelude.{◌≡◌, ◌≢◌, ℕ, ◌-◌, ◌≤◌, true, false, List, length, take, slice_index, Option, Some, None}
 use Rattle.std.specs.List.{list_all}
-use Rattle.bsp_records.specs.Columns.{is_printable}
+use Rattle.bsp_fields.specs.Columns.{is_printable}
 use Rattle.bsp_explain.specs.declared.reason.Reason.{Reason}
 use Rattle.bsp_explain.specs.declared.reason.Reason.TheVariants as reason
 

@@ -2,8 +2,8 @@
 use Rattle.std.specs.Prelude.{◌≡◌, ◌≢◌, ℕ, ◌+◌, ◌==◌, ◌&&◌, ◌||◌, Bool, true, false, not, List, [], length, Ok, Some, if◌then◌else◌}
 use Rattle.bsp_fields.specs.Decimal.{number_of}
 use Rattle.bsp_fields.specs.Zoned.{zoned_reading}
-use Rattle.bsp_records.specs.Columns.{identifier, is_wide}
-use Rattle.bsp_records.specs.Fields.{spells}
+use Rattle.bsp_fields.specs.Columns.{identifier, is_wide}
+use Rattle.bsp_fields.specs.Fields.{spells}
 use Rattle.bsp_ret_records.specs.Records.{transaction_number, record_count, transaction_count, total, sale_fits, related_fits, amounts_fit, form_of, form_fits, trailer_fits}
 use Rattle.bsp_ret.specs.declared.model.FaultCode.{FaultCode}
 use Rattle.bsp_ret.specs.declared.model.FaultCode.TheVariants.{F01, F02, F03, F04, F05, F06, F07, F08, F09, F10}

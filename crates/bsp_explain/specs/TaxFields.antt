@@ -1,8 +1,8 @@
 -- The fields of six tax places side by side, 13 columns each.
 use Rattle.std.specs.Prelude.{ℕ, zero, suc, ◌+◌, ◌*◌, Bool, false, List, [], ◌∷◌, ◌++◌, if◌then◌else◌}
 use Rattle.std.specs.List.{list_all}
-use Rattle.bsp_records.specs.Columns.{columns, is_space}
-use Rattle.bsp_records.specs.Taxes.{tax_code}
+use Rattle.bsp_fields.specs.Columns.{columns, is_space}
+use Rattle.bsp_fields.specs.Taxes.{tax_code}
 use Rattle.bsp_explain.specs.declared.form.Form.TheVariants as form
 use Rattle.bsp_explain.specs.declared.name.Name.TheVariants as name
 use Rattle.bsp_explain.specs.declared.field.Field.{Field}

@@ -1,7 +1,7 @@
 //! Explanations as people read them.
 
 ghost use Rattle.std.specs.Prelude.{◌≡◌, ◌≢◌, ◌+◌, ◌++◌, ◌≤◌, ◌<◌, ◌^◌, ℕ, List, length, true, None, Err, IfSome, IfNone, IfOk, IfErr};
-ghost use Rattle.bsp_records.specs.Lines.{lines};
+ghost use Rattle.bsp_fields.specs.Lines.{lines};
 ghost use Rattle.bsp_ret.specs.Table.{standing, first_fault, row_fault};
 ghost use Rattle.bsp_ret.specs.Pieces.{IsClear};
 ghost use Rattle.bsp_explain.specs.Lines.{IsLine};
@@ -16,7 +16,7 @@ use crate::reason::Reason;
 use crate::ret_reasons::{is_start, ret_reason};
 use crate::width::long_reason;
 use bsp_fault_texts::{Characters, Words};
-use bsp_records::first_line;
+use bsp_fields::first_line;
 use bsp_ret::{FaultCode, Standing};
 use std::fmt;
 

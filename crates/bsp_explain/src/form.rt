@@ -4,7 +4,7 @@ ghost use Rattle.std.specs.Prelude.{◌≡◌, length, true};
 ghost use Rattle.bsp_explain.specs.Fields.{fits, is_document_code, is_file_form, is_form_of_payment, is_transaction_code, takes_width};
 
 use bsp_fault_texts::Words;
-use bsp_records::{
+use bsp_fields::{
     all_digits, all_letters, all_letters_or_digits, all_spaces, is_amount, is_record_day, is_total,
     spells_at_most, tax_code,
 };

@@ -5,7 +5,7 @@ use crate::form::Form;
 use crate::reason::Reason;
 use crate::ret_reasons::record_field;
 use bsp_fault_texts::{Cause, Characters, Words};
-use bsp_records::is_record_day;
+use bsp_fields::is_record_day;
 
 /// What a record shows of the mistake in it.
 #[derive(Clone, Copy)]

@@ -1,7 +1,7 @@
 //! What is wrong with a record of a RET file, from the record and from the state of those before it.
 
 ghost use Rattle.std.specs.Prelude.{◌≡◌, ◌||◌, ◌+◌, ◌-◌, ◌≤◌, ◌<◌, ◌^◌, ℕ, not, length, true, false, IfSome, IfNone};
-ghost use Rattle.bsp_records.specs.Columns.{is_wide};
+ghost use Rattle.bsp_fields.specs.Columns.{is_wide};
 ghost use Rattle.bsp_ret_records.specs.Records.{IsFit, trailer_fits};
 ghost use Rattle.bsp_ret.specs.Table.{is_start, has_counts, has_sum};
 ghost use Rattle.bsp_explain.specs.Fields.{first_unfit, IsAtFault};
@@ -14,7 +14,7 @@ use crate::ret_fields::{
 };
 use crate::width::width_reason;
 use bsp_fault_texts::Money;
-use bsp_records::{number_of, spells};
+use bsp_fields::{number_of, spells};
 use bsp_ret::{FaultCode, LastRecord, Standing};
 use bsp_ret_records::{
     form_of, record_count, told_records, told_sum, trailer_fits, transaction_count,

@@ -7,7 +7,7 @@ ghost use Rattle.bsp_explain.specs.TaxFields.{place_at, is_after_unused, code_be
 use crate::field::{Field, field, first_unfit};
 use crate::form::Form;
 use crate::name::Name;
-use bsp_records::{all_spaces, tax_code};
+use bsp_fields::{all_spaces, tax_code};
 
 /// The tax place of that index, from 0 to 5, where the first one begins in that column.
 fn place_at(start: u8, line: &[u8], index: u8) -> &[u8]

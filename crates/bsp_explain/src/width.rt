@@ -2,7 +2,7 @@
 
 ghost use Rattle.std.specs.Prelude.{◌≡◌, ◌≢◌, ◌++◌, ℕ, List, length, true, false, IfSome, IfNone};
 ghost use Rattle.std.specs.List.{list_all};
-ghost use Rattle.bsp_records.specs.Columns.{is_printable, is_wide};
+ghost use Rattle.bsp_fields.specs.Columns.{is_printable, is_wide};
 ghost use Rattle.bsp_explain.specs.Reasons.{SaysOfWidth};
 ghost use Rattle.bsp_explain.specs.RetReasons.{Says, is_reason_of};
 ghost use Rattle.bsp_ret.specs.declared.model.FaultCode.TheVariants.{F01};
@@ -34,7 +34,7 @@ fn unprintable(line: &[u8]) -> Option<(u8, u8)>
 }
 
 /// Why a line is no record of 136 characters from 0x20 to 0x7E.
-#[tactic(auto, unfolding(bsp_records::specs::Columns::is_wide))]
+#[tactic(auto, unfolding(bsp_fields::specs::Columns::is_wide))]
 pub fn width_reason(line: &[u8]) -> Option<Reason>
     ensures says { (n : ℕ) (at : Standing) → IfSome result (Says n at line.now) }
     ensures row { IfSome result (λ reason. is_reason_of F01 reason ≡ true) }

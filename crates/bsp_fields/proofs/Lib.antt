@@ -9,3 +9,10 @@ pub mod DayOrderLemmas
 pub mod DayTextLemmas
 pub mod MoneyLemmas
 pub mod TokenLemmas
+pub mod CutLemmas
+pub mod RestLemmas
+pub mod CharacterLemmas
+pub mod DigitLemmas
+pub mod TextLemmas
+pub mod FieldLemmas
+pub mod TaxPlaces

@@ -1,4 +1,4 @@
--- What the contracts of the fields cite.
+-- What the contracts of the fields and of the records cite.
 pub mod FirstFault
 pub mod Changes
 pub mod Decimal
@@ -8,3 +8,7 @@ pub mod CivilDay
 pub mod Days
 pub mod Money
 pub mod Tokens
+pub mod Lines
+pub mod Columns
+pub mod Fields
+pub mod Taxes

@@ -9,7 +9,7 @@ use std::marker::Model;
 
 /// An amount of money in minor units (hundredths of the currency), of either sign and at most
 /// eleven digits. A contract sees it as that whole number.
-#[derive(Clone, Copy, Debug, PartialEq, Eq, PartialOrd, Ord)]
+#[derive(Clone, Copy, PartialEq, Eq, PartialOrd, Ord)]
 pub struct Amount {
     units: i64,
 }

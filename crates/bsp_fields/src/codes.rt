@@ -12,7 +12,7 @@ use std::marker::Model;
 
 /// An agent's code of eight digits, the eighth of which is the first seven modulo 7. A contract
 /// sees it as the number that the eight digits write.
-#[derive(Clone, Copy, Debug, PartialEq, Eq, PartialOrd, Ord)]
+#[derive(Clone, Copy, PartialEq, Eq, PartialOrd, Ord)]
 pub struct AgentCode {
     number: u32,
 }
@@ -65,7 +65,7 @@ impl fmt::Display for AgentCode {
 }
 
 /// An airline's code of three digits. A contract sees it as the number that they write.
-#[derive(Clone, Copy, Debug, PartialEq, Eq, PartialOrd, Ord)]
+#[derive(Clone, Copy, PartialEq, Eq, PartialOrd, Ord)]
 pub struct AirlineCode {
     number: u16,
 }
@@ -115,7 +115,7 @@ impl fmt::Display for AirlineCode {
 }
 
 /// The code of a billing period, of five digits. A contract sees it as the number that they write.
-#[derive(Clone, Copy, Debug, PartialEq, Eq, PartialOrd, Ord)]
+#[derive(Clone, Copy, PartialEq, Eq, PartialOrd, Ord)]
 pub struct PeriodCode {
     number: u32,
 }

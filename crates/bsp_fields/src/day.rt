@@ -13,7 +13,7 @@ use std::marker::Model;
 
 /// A day of the civil calendar, from 2000-01-01 to 2099-12-31. A contract sees it as a `CivilDay`:
 /// a year, a month and a day of the month.
-#[derive(Clone, Copy, Debug, PartialEq, Eq, PartialOrd, Ord)]
+#[derive(Clone, Copy, PartialEq, Eq, PartialOrd, Ord)]
 pub struct Day {
     year: u16,
     month: u8,

@@ -24,7 +24,7 @@ pub fn check_digit(number: &[u8; 10]) -> u8
 
 /// A document number of ten digits, without its check digit. A contract sees it as the number that
 /// the digits write, so the order is that of the digits.
-#[derive(Clone, Copy, Debug, PartialEq, Eq, PartialOrd, Ord)]
+#[derive(Clone, Copy, PartialEq, Eq, PartialOrd, Ord)]
 pub struct DocNumber {
     number: u64,
 }

@@ -9,7 +9,7 @@ use std::marker::Model;
 
 /// A sum of amounts in minor units (hundredths of the currency), of either sign and at most
 /// fifteen digits. A contract sees it as that whole number.
-#[derive(Clone, Copy, Debug, PartialEq, Eq, PartialOrd, Ord)]
+#[derive(Clone, Copy, PartialEq, Eq, PartialOrd, Ord)]
 pub struct Total {
     units: i64,
 }

@@ -3,10 +3,10 @@ use Rattle.std.proofs.Common.{◌≡◌, ℕ, suc, ◌+◌, ◌-◌, ◌<◌, �
 use Rattle.std.specs.Prelude.{◌==◌, cond, Result, Ok, Err}
 use Rattle.std.proofs.lemmas.Bool.{cases_Bool}
 use Rattle.std.proofs.lemmas.List.{length-take, take-append-drop, append-nil}
-use Rattle.bsp_records.specs.Columns.{is_wide}
-use Rattle.bsp_records.specs.Lines.{lines, begins_with, with_first, before_rest, BeginsWithLine, HasFirstLine, BeginsOtherwise}
-use Rattle.bsp_records.proofs.CutLemmas.{lines_nil, some_lines}
-use Rattle.bsp_records.proofs.RestLemmas.{rest_itself, rest_of_rest, cut_alone}
+use Rattle.bsp_fields.specs.Columns.{is_wide}
+use Rattle.bsp_fields.specs.Lines.{lines, begins_with, with_first, before_rest, BeginsWithLine, HasFirstLine, BeginsOtherwise}
+use Rattle.bsp_fields.proofs.CutLemmas.{lines_nil, some_lines}
+use Rattle.bsp_fields.proofs.RestLemmas.{rest_itself, rest_of_rest, cut_alone}
 use Rattle.bsp_hot_check.specs.declared.model.Standing.{Standing}
 use Rattle.bsp_hot_check.specs.declared.model.HotTotals.{HotTotals}
 use Rattle.bsp_hot_check.specs.declared.model.RecordFault.{RecordFault}

@@ -1,6 +1,6 @@
 -- The end of a text that is judged in pieces.
 use Rattle.std.specs.Prelude.{◌≡◌, ℕ, List, ◌∷◌, ◌++◌, Some, None}
-use Rattle.bsp_records.specs.Lines.{lines, IsRest}
+use Rattle.bsp_fields.specs.Lines.{lines, IsRest}
 use Rattle.bsp_hot_check.specs.declared.model.Standing.{Standing}
 use Rattle.bsp_hot_check.specs.Judging.{step_line, stands_after}
 

@@ -1,7 +1,7 @@
 //! A HOT file, from its text to its totals.
 
 ghost use Rattle.std.specs.Prelude.{◌≡◌, ◌<◌, ◌+◌, ◌^◌, ℕ, List, Ok, Some, IfOk, IfErr, IfSome, IfNone};
-ghost use Rattle.bsp_records.specs.Lines.{lines};
+ghost use Rattle.bsp_fields.specs.Lines.{lines};
 ghost use Rattle.bsp_hot_check.specs.Hot.{File, Hot, IsFirstFault, HotOrFault, totals_of_file};
 ghost use Rattle.bsp_hot_check.specs.Standings.{start, IsSmall};
 ghost use Rattle.bsp_hot_check.specs.Judging.{stands_after};

@@ -1,7 +1,7 @@
 //! Each record after those before it: whether they allow it, and the state with it.
 
 ghost use Rattle.std.specs.Prelude.{◌≡◌, ◌<◌, ◌^◌, length, true, false, Some, None};
-ghost use Rattle.bsp_records.specs.Columns.{is_wide};
+ghost use Rattle.bsp_fields.specs.Columns.{is_wide};
 ghost use Rattle.bsp_hot_records.specs.Judged.{IsSmallPart, IsSmallRecord};
 ghost use Rattle.bsp_hot_check.specs.Standings.{step, allowed, form_at, is_airline, is_period, is_currency, is_agent, is_agent_after, is_key_after, is_next, IsSmall, IsSmallNext};
 ghost use Rattle.bsp_hot_check.specs.Judging.{step_line};

@@ -13,7 +13,7 @@ pub struct RecordFault {
 }
 
 /// The totals of a HOT file: its records, its documents, and its net in minor units.
-#[derive(Clone, Copy, Debug)]
+#[derive(Clone, Copy)]
 pub struct HotTotals {
     /// The records, headers and totals counted.
     pub records: usize,

@@ -1,13 +1,13 @@
 //! The lines with which a text ends.
 
 ghost use Rattle.std.specs.Prelude.{◌≡◌, ◌≤◌, ◌+◌, ◌^◌, Some, length, IfErr, OnOk};
-ghost use Rattle.bsp_records.specs.Lines.{lines};
+ghost use Rattle.bsp_fields.specs.Lines.{lines};
 ghost use Rattle.bsp_hot_check.specs.Standings.{IsSmall};
 ghost use Rattle.bsp_hot_check.specs.Judging.{stands_after};
 ghost use Rattle.bsp_hot_check.specs.Pieces.{Passes, AreRefused};
 
 use crate::model::Standing;
-use bsp_records::first_record;
+use bsp_fields::first_record;
 
 impl Standing {
     /// Takes the lines of the bytes with which a text ends.

@@ -5,8 +5,8 @@ use Rattle.std.specs.List.{list_all}
 use Rattle.std.specs.Str.{bytes_eq, all_ascii_digits}
 use Rattle.std.proofs.Math.Bool.{and_assoc, and-true}
 use Rattle.std.proofs.lemmas.Bool.{cases_Bool}
-use Rattle.bsp_records.specs.Columns.{columns, is_letter, is_space}
-use Rattle.bsp_records.specs.Fields.{spells_at_most, is_amount, is_total, is_record_day}
+use Rattle.bsp_fields.specs.Columns.{columns, is_letter, is_space}
+use Rattle.bsp_fields.specs.Fields.{spells_at_most, is_amount, is_total, is_record_day}
 use Rattle.bsp_hot_records.specs.declared.form.FileForm.{FileForm}
 use Rattle.bsp_hot_records.specs.declared.form.FileForm.TheVariants.{One, Two}
 use Rattle.bsp_hot_records.specs.declared.name.RecordName.{RecordName}

@@ -1,7 +1,7 @@
 -- The fields of the records of a HOT file, from column 14 on.
 use Rattle.std.specs.Prelude.{ℕ, ◌+◌, List, [], ◌∷◌, ◌++◌, if◌then◌else◌, codes}
 use Rattle.std.specs.Str.{bytes_eq}
-use Rattle.bsp_records.specs.Columns.{columns}
+use Rattle.bsp_fields.specs.Columns.{columns}
 use Rattle.bsp_hot_records.specs.declared.form.FileForm.{FileForm}
 use Rattle.bsp_hot_records.specs.declared.form.FileForm.TheVariants.{One, Two}
 use Rattle.bsp_hot_records.specs.declared.name.RecordName.{RecordName}

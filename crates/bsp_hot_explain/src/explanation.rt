@@ -2,8 +2,8 @@
 
 ghost use Rattle.std.specs.Prelude.{◌≡◌, ◌+◌, ◌<◌, ◌^◌, ◌++◌, ℕ, List, length, codes};
 ghost use Rattle.std.specs.Str.{bytes_eq};
-ghost use Rattle.bsp_records.specs.Columns.{columns};
-ghost use Rattle.bsp_records.specs.Lines.{lines};
+ghost use Rattle.bsp_fields.specs.Columns.{columns};
+ghost use Rattle.bsp_fields.specs.Lines.{lines};
 ghost use Rattle.bsp_explain.specs.Lines.{IsLine};
 ghost use Rattle.bsp_hot_check.specs.Standings.{IsSmall};
 ghost use Rattle.bsp_hot_explain.specs.HotReasons.{SaysOfHot, record_name};
@@ -14,9 +14,9 @@ use crate::kind::Kind;
 use crate::next::Expected;
 use crate::reason::{HotReason, Shortness};
 use bsp_explain::{Words, long_reason, say_columns};
+use bsp_fields::first_line;
 use bsp_hot_check::Standing;
 use bsp_hot_records::RecordName;
-use bsp_records::first_line;
 use std::fmt;
 
 /// What is wrong with a record of a HOT file. It is displayed as `record 16 (BOT94), columns 30-44: CA

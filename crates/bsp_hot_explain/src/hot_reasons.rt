@@ -1,7 +1,7 @@
 //! What is wrong with a record of a HOT file, from the record and from the state of those before it.
 
 ghost use Rattle.std.specs.Prelude.{◌≡◌, ◌+◌, ◌<◌, ◌^◌, length, true, false, None, IfSome, IfNone, IsSome};
-ghost use Rattle.bsp_records.specs.Columns.{columns, is_wide};
+ghost use Rattle.bsp_fields.specs.Columns.{columns, is_wide};
 ghost use Rattle.bsp_hot_records.specs.Records.{name_of, fields_fit};
 ghost use Rattle.bsp_hot_records.specs.Reading.{record_at};
 ghost use Rattle.bsp_hot_check.specs.Standings.{form_at, step, IsSmall};
@@ -14,9 +14,9 @@ use crate::next::Expected;
 use crate::placing::{is_in_order, is_in_place};
 use crate::reason::{Disorder, HotReason};
 use bsp_explain::{Reason, width_reason};
+use bsp_fields::spells;
 use bsp_hot_check::{DocumentKey, Standing};
 use bsp_hot_records::{FileForm, Heading, Record, RecordName, read_record};
-use bsp_records::spells;
 
 /// The names of records.
 const NAMES: [RecordName; 14] = [

@@ -2,7 +2,7 @@
 
 use crate::comparison::say_bytes;
 use bsp_explain::Words;
-use bsp_records::first_line;
+use bsp_fields::first_line;
 
 /// What a text that is no HOT file seems to be. It is for people.
 #[derive(Clone, Copy)]

@@ -4,10 +4,9 @@ use crate::comparison::{Comparison, Value, say_bytes};
 use crate::kind::Kind;
 use crate::next::Expected;
 use bsp_explain::{Cause, Name, Reason, Words};
-use bsp_fields::write_digits;
+use bsp_fields::{all_digits, write_digits};
 use bsp_hot_check::DocumentKey;
 use bsp_hot_records::{AgentDigits, DocumentCode};
-use bsp_records::all_digits;
 
 /// What to do with a file that was damaged: an airline writes none itself.
 const DAMAGED: &str = ": fetch the file again; if it stays so, ask the office";

@@ -2,8 +2,8 @@
 use Rattle.std.proofs.Common.{◌≡◌, ℕ, true, List, Some, refl, inl, inr}
 use Rattle.std.specs.Str.{bytes_eq}
 use Rattle.std.proofs.lemmas.Bool.{cases_Bool}
-use Rattle.bsp_records.specs.Columns.{columns, is_wide}
-use Rattle.bsp_records.specs.Fields.{spells}
+use Rattle.bsp_fields.specs.Columns.{columns, is_wide}
+use Rattle.bsp_fields.specs.Fields.{spells}
 use Rattle.bsp_hot_records.specs.declared.form.FileForm.{FileForm}
 use Rattle.bsp_hot_records.specs.declared.name.RecordName.{RecordName}
 use Rattle.bsp_hot_records.specs.Records.{letters, name_of, fields_fit}

@@ -2,8 +2,8 @@
 use Rattle.std.specs.Prelude.{ℕ, ◌&&◌, List, Option, Some, None, if◌then◌else◌}
 use Rattle.std.specs.Option.{option_map}
 use Rattle.std.specs.Str.{bytes_eq}
-use Rattle.bsp_records.specs.Columns.{columns, is_wide}
-use Rattle.bsp_records.specs.Fields.{spells}
+use Rattle.bsp_fields.specs.Columns.{columns, is_wide}
+use Rattle.bsp_fields.specs.Fields.{spells}
 use Rattle.bsp_hot_records.specs.declared.form.FileForm.{FileForm}
 use Rattle.bsp_hot_records.specs.declared.name.RecordName.{RecordName}
 use Rattle.bsp_hot_records.specs.declared.model.Record.{Record as JudgedRecord}

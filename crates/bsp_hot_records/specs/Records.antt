@@ -5,9 +5,9 @@ use Rattle.std.specs.List.{list_all}
 use Rattle.std.specs.Str.{all_ascii_digits, bytes_eq}
 use Rattle.bsp_fields.specs.Decimal.{number_of}
 use Rattle.bsp_fields.specs.Zoned.{zoned_reading}
-use Rattle.bsp_records.specs.Columns.{columns, is_letter, is_letter_or_digit, is_space, is_wide}
-use Rattle.bsp_records.specs.Fields.{spells, spells_at_most, is_amount, is_total, is_record_day}
-use Rattle.bsp_records.specs.Taxes.{tax_places, taxes_fit}
+use Rattle.bsp_fields.specs.Columns.{columns, is_letter, is_letter_or_digit, is_space, is_wide}
+use Rattle.bsp_fields.specs.Fields.{spells, spells_at_most, is_amount, is_total, is_record_day}
+use Rattle.bsp_fields.specs.Taxes.{tax_places, taxes_fit}
 use Rattle.bsp_hot_records.specs.declared.code.DocumentCode.{DocumentCode}
 use Rattle.bsp_hot_records.specs.declared.code.DocumentCode.TheVariants.{Tktt, Rfnd, Canx, Adma, Acma}
 use Rattle.bsp_hot_records.specs.declared.form.FileForm.{FileForm}

@@ -5,7 +5,7 @@ ghost use Rattle.bsp_hot_records.specs.Records.{code_of, code_text};
 ghost use Rattle.bsp_hot_records.specs.Sums.{rank};
 
 /// The code of a document. A HOT file has them in this order.
-#[derive(Clone, Copy, Debug, PartialEq, Eq)]
+#[derive(Clone, Copy, PartialEq, Eq)]
 pub enum DocumentCode {
     /// A sale.
     Tktt,

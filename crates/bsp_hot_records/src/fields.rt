@@ -2,16 +2,18 @@
 
 ghost use Rattle.std.specs.Prelude.{◌≡◌, ◌+◌, ◌-◌, ◌≤◌, length, true, false, IfSome, IfNone};
 ghost use Rattle.std.specs.Str.{all_ascii_digits};
-ghost use Rattle.bsp_records.specs.Columns.{columns};
-ghost use Rattle.bsp_records.specs.Fields.{is_amount, is_total};
+ghost use Rattle.bsp_fields.specs.Columns.{columns};
+ghost use Rattle.bsp_fields.specs.Fields.{is_amount, is_total};
 ghost use Rattle.bsp_hot_records.specs.Records.{code_of, form_fits, tax_places_fit, totals_fit, rest_fits, number_in, amount_of, total_of, totals_of, tax_in};
 ghost use Rattle.bsp_hot_records.specs.Judged.{IsSmallAmount};
 
 use crate::code::DocumentCode;
 use crate::form::FileForm;
 use crate::totals::{Sums, Totals};
-use bsp_fields::{AirlineCode, DocNumber, PeriodCode, read_amount, read_total};
-use bsp_records::{all_digits, all_letters_or_digits, all_spaces, number_of, taxes_fit};
+use bsp_fields::{
+    AirlineCode, DocNumber, PeriodCode, all_digits, all_letters_or_digits, all_spaces, number_of,
+    read_amount, read_total, taxes_fit,
+};
 
 /// The code of a document, from its four letters.
 #[inline]

@@ -4,7 +4,7 @@ ghost use Rattle.std.specs.Prelude.{◌≡◌, Some};
 ghost use Rattle.bsp_hot_records.specs.Records.{file_form_of, file_form_text};
 
 /// The form of a HOT file. It decides which columns a record of the file has.
-#[derive(Clone, Copy, Debug, PartialEq, Eq)]
+#[derive(Clone, Copy, PartialEq, Eq)]
 pub enum FileForm {
     /// Form 1, without tax on commission.
     One,

@@ -1,7 +1,7 @@
 //! A record from its line.
 
 ghost use Rattle.std.specs.Prelude.{◌≡◌, length, true, IfSome};
-ghost use Rattle.bsp_records.specs.Columns.{is_wide};
+ghost use Rattle.bsp_fields.specs.Columns.{is_wide};
 ghost use Rattle.bsp_hot_records.specs.Reading.{record_at, judged_at};
 ghost use Rattle.bsp_hot_records.specs.Judged.{IsSmallRecord};
 
@@ -9,7 +9,7 @@ use crate::form::FileForm;
 use crate::model::Record;
 use crate::name::RecordName;
 use crate::records::record_of;
-use bsp_records::spells;
+use bsp_fields::spells;
 
 /// What is judged of a line that has a record's width, where it is a record with this number in a
 /// file of that form. BFH01 is the same in each form.

@@ -16,7 +16,7 @@ use crate::model::{
     PeriodTotals, Record, RelatedDocument, TransactionHeader,
 };
 use crate::name::RecordName;
-use bsp_records::{all_digits, all_letters, all_spaces, is_amount, is_record_day, spells_at_most};
+use bsp_fields::{all_digits, all_letters, all_spaces, is_amount, is_record_day, spells_at_most};
 
 #[tactic(auto, unfolding(crate::specs::Records::record_of, crate::specs::Records::fields_fit))]
 fn file_header(line: &[u8]) -> Option<Record>

@@ -5,7 +5,7 @@ ghost use Rattle.bsp_hot_records.specs.Sums.{add, net_of, is_same, has_totals, A
 
 /// What documents add up to: how many there are, and their cash, credit, commission and tax on
 /// commission in minor units.
-#[derive(Clone, Copy, Debug, PartialEq, Eq)]
+#[derive(Clone, Copy, PartialEq, Eq)]
 pub struct Sums {
     /// How many documents there are.
     pub documents: usize,

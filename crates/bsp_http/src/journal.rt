@@ -19,7 +19,7 @@ pub trait Journal<B: Book> {
 }
 
 /// Takes note of nothing.
-#[derive(Clone, Copy, Debug, PartialEq, Eq)]
+#[derive(Clone, Copy, PartialEq, Eq)]
 pub struct NoJournal;
 
 impl<B: Book> Journal<B> for NoJournal {

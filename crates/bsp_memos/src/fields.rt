@@ -6,7 +6,7 @@ use crate::state::MemoState;
 use bsp_fields::{AgentCode, AirlineCode, Amount, Day, DocNumber, PeriodCode};
 
 /// The fields of a memo, as a store keeps them; nothing says that they fit together.
-#[derive(Clone, Copy, Debug, PartialEq, Eq)]
+#[derive(Clone, Copy, PartialEq, Eq)]
 pub struct MemoFields {
     /// The airline that issued it; with `document` its key.
     pub airline: AirlineCode,

@@ -4,7 +4,7 @@ ghost use Rattle.std.specs.Prelude.{◌≡◌, Some};
 ghost use Rattle.bsp_memos.specs.Texts.{kind_text, kind_reading};
 
 /// Who owes the amount of a memo.
-#[derive(Clone, Copy, Debug, PartialEq, Eq)]
+#[derive(Clone, Copy, PartialEq, Eq)]
 pub enum MemoKind {
     /// ADMA: the agent owes the airline.
     Debit,

@@ -13,7 +13,7 @@ use std::marker::Model;
 ///
 /// Its amount is from 1 to 99,999,999,999 minor units; it is the amount as issued, or below it once
 /// the memo is reduced. A credit memo stays open. A billed memo is neither disputed nor withdrawn.
-#[derive(Clone, Copy, Debug, PartialEq, Eq)]
+#[derive(Clone, Copy, PartialEq, Eq)]
 pub struct Memo {
     pub(crate) fields: MemoFields,
 }

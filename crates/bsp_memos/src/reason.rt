@@ -9,7 +9,7 @@ use std::marker::Model;
 use std::str;
 
 /// The reason of a memo: 1 to 40 characters from 0x20 to 0x7E. A contract sees it as the characters.
-#[derive(Clone, Copy, Debug, PartialEq, Eq)]
+#[derive(Clone, Copy, PartialEq, Eq)]
 pub struct Reason {
     // filled with spaces behind the characters of the reason
     characters: [u8; 40],

@@ -5,7 +5,7 @@ ghost use Rattle.bsp_memos.specs.Texts.{state_text, state_reading};
 ghost use Rattle.bsp_memos.specs.States.{is_disputed, is_withdrawn};
 
 /// How far a memo has come between the agent and the airline.
-#[derive(Clone, Copy, Debug, PartialEq, Eq)]
+#[derive(Clone, Copy, PartialEq, Eq)]
 pub enum MemoState {
     /// Issued, and nothing done about it.
     Open,

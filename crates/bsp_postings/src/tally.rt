@@ -12,7 +12,7 @@ use bsp_rules::Item;
 use std::alloc::{AllocError, Global};
 
 /// What an agent's rows of an airline and a period add up to: counts, and sums in minor units.
-#[derive(Clone, Copy, Debug, PartialEq, Eq, Drop)]
+#[derive(Clone, Copy, PartialEq, Eq, Drop)]
 pub struct Tally {
     /// The agent.
     pub agent: AgentCode,

@@ -13,7 +13,7 @@ use Rattle.bsp_ret_records.specs.declared.codes.TransactionCode.TheVariants.{Tkt
 use Rattle.bsp_ret.specs.declared.model.LastRecord.{LastRecord}
 use Rattle.bsp_ret.specs.declared.model.LastRecord.TheVariants as last
 use Rattle.bsp_ret.specs.declared.model.Standing.{Standing}
-use Rattle.bsp_records.specs.Columns.{identifier}
+use Rattle.bsp_fields.specs.Columns.{identifier}
 use Rattle.bsp_ret_records.specs.Records.{code_of, sale_fits, related_order, related_fits, amounts_fit, form_of}
 use Rattle.bsp_ret.specs.Table.{is_related, paid, total_paid, standing, is_complete, takes_related, comes_behind, takes_amounts, takes_form, has_form}
 use Rattle.bsp_ret.specs.Standings.{only_with, standing_behind}

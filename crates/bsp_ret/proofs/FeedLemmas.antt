@@ -12,15 +12,15 @@ use Rattle.bsp_ret.specs.declared.model.Progress.{Progress}
 use Rattle.bsp_ret.specs.declared.model.Progress.TheVariants.{Reading, Ended, Failed}
 use Rattle.bsp_ret.specs.declared.notes.Notes.{Notes}
 use Rattle.bsp_ret.specs.declared.notes.Place.{Place}
-use Rattle.bsp_records.specs.Lines.{lines, has_end, IsWholeLines}
+use Rattle.bsp_fields.specs.Lines.{lines, has_end, IsWholeLines}
 use Rattle.bsp_ret.specs.Said.{record_in}
 use Rattle.bsp_ret.specs.Table.{kind, has_ended, row_fault}
 use Rattle.bsp_ret.specs.Standings.{standing_behind, FitsIn}
 use Rattle.bsp_ret.specs.Reading.{Draft, add, read_from, read_all}
 use Rattle.bsp_ret.specs.Notes.{bytes_of, draft_by, draft_of, HasPlaces, IsNoted, IsNotedTo, IsFileNoted}
 use Rattle.bsp_ret.specs.Pieces.{IsKnown}
-use Rattle.bsp_records.proofs.CutLemmas.{lines_last}
-use Rattle.bsp_records.proofs.RestLemmas.{lines_empty}
+use Rattle.bsp_fields.proofs.CutLemmas.{lines_last}
+use Rattle.bsp_fields.proofs.RestLemmas.{lines_empty}
 use Rattle.bsp_ret.proofs.LoopLemmas.{goes_on, fails, ends, lacks}
 use Rattle.bsp_ret.proofs.NoteLemmas.{part_grown, lines_grown, place_grown, places_grown, groups_grown, place_further, places_further}
 use Rattle.bsp_ret.proofs.PieceLemmas.{last_with, records_with, open_before}

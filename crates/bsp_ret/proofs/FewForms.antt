@@ -2,7 +2,7 @@
 use Rattle.std.proofs.Common.{◌≡◌, ℕ, ◌+◌, ◌*◌, ◌^◌, ◌≤◌, ℤ, pos, Bool, true, List, Option, Some, refl, ap, ◌∙◌, arith}
 use Rattle.std.specs.Prelude.{unsigned_abs, unwrap_or}
 use Rattle.std.proofs.lemmas.Int.{ints}
-use Rattle.bsp_records.specs.Columns.{identifier}
+use Rattle.bsp_fields.specs.Columns.{identifier}
 use Rattle.bsp_ret_records.specs.declared.codes.FormOfPayment.{FormOfPayment}
 use Rattle.bsp_ret_records.specs.declared.codes.FormOfPayment.TheVariants.{Cash, Credit, Exchange}
 use Rattle.bsp_ret_records.specs.declared.codes.Profile.{Profile}

@@ -7,7 +7,7 @@ use Rattle.std.proofs.lemmas.Bool.{and_parts, eqb-true}
 use Rattle.bsp_ret_records.specs.declared.codes.TransactionCode.{TransactionCode}
 use Rattle.bsp_ret_records.specs.declared.codes.FormOfPayment.{FormOfPayment}
 use Rattle.bsp_ret_records.specs.declared.codes.FormOfPayment.TheVariants.{Cash, Credit, Exchange}
-use Rattle.bsp_records.specs.Columns.{identifier, is_wide, is_printable}
+use Rattle.bsp_fields.specs.Columns.{identifier, is_wide, is_printable}
 use Rattle.bsp_ret_records.specs.Records.{code_of, sale_fits, related_fits, amounts_fit, form_of, form_fits, IsFit}
 use Rattle.bsp_ret.proofs.Wide.{group_at}
 use Rattle.bsp_ret.proofs.BodyLemmas.{BodyFacts, body_facts, first_related, second_related}
@@ -21,7 +21,7 @@ use Rattle.bsp_ret.specs.declared.fields.GroupFields.{GroupFields}
 use Rattle.bsp_ret.specs.Slices.{AreFieldsOf, HasFields}
 use Rattle.bsp_ret_records.specs.declared.transactions.PaidSale.{PaidSale}
 use Rattle.bsp_ret.specs.Table.{total_paid}
-use Rattle.bsp_records.specs.Lines.{lines, BeginsOtherwise}
+use Rattle.bsp_fields.specs.Lines.{lines, BeginsOtherwise}
 
 -- ---- one record
 

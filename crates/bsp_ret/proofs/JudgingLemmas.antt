@@ -2,7 +2,7 @@
 use Rattle.std.proofs.Common.{◌≡◌, ◌≤◌, ◌==◌, ℕ, suc, ℤ, pos, ◌+◌, ◌*◌, ◌^◌, ◌+ℤ◌, Bool, true, false, cond, List, [], ◌∷◌, ◌++◌, length, Option, Some, None, IfSome, is_some, option_to_list, Ok, Err, refl, sym, ap, subst, ◌∙◌, arith, append_assoc, append-nil, length-append, add-zero}
 use Rattle.std.specs.Prelude.{unsigned_abs}
 use Rattle.std.proofs.Math.IntN.{+ℤ_idl, +ℤ_idr}
-use Rattle.bsp_records.specs.Columns.{identifier}
+use Rattle.bsp_fields.specs.Columns.{identifier}
 use Rattle.bsp_ret_records.specs.declared.codes.FormOfPayment.{FormOfPayment}
 use Rattle.bsp_ret_records.specs.declared.codes.Profile.{Profile}
 use Rattle.bsp_ret_records.specs.declared.codes.TransactionCode.{TransactionCode}

@@ -20,7 +20,7 @@ pub mod RelatedLemmas
 pub mod TrailerLemmas
 pub mod SameGroup
 pub mod SameContent
-pub use Rattle.bsp_records.proofs.CharacterLemmas
-pub use Rattle.bsp_records.proofs.FieldLemmas
-pub use Rattle.bsp_records.proofs.TextLemmas
+pub use Rattle.bsp_fields.proofs.CharacterLemmas
+pub use Rattle.bsp_fields.proofs.FieldLemmas
+pub use Rattle.bsp_fields.proofs.TextLemmas
 pub mod JudgingLemmas

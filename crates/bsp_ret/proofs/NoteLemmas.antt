@@ -8,9 +8,9 @@ use Rattle.std.specs.List.{slice_range}
 use Rattle.std.proofs.lemmas.Bool.{cases_Bool, and_parts}
 use Rattle.std.proofs.lemmas.List.{map-append, take-append-le, drop-append-le, drop-drop, length-take, length-take-le}
 use Rattle.std.proofs.Math.Seq.{take-add}
-use Rattle.bsp_records.specs.Lines.{with_first, begins_with, lines, before_rest, IsWholeLines, BeginsWithLine}
-use Rattle.bsp_records.proofs.CutLemmas.{lines_nil, some_lines, first_ended}
-use Rattle.bsp_records.proofs.RestLemmas.{whole_nothing, whole_joined, whole_cut, cut_alone, lines_empty}
+use Rattle.bsp_fields.specs.Lines.{with_first, begins_with, lines, before_rest, IsWholeLines, BeginsWithLine}
+use Rattle.bsp_fields.proofs.CutLemmas.{lines_nil, some_lines, first_ended}
+use Rattle.bsp_fields.proofs.RestLemmas.{whole_nothing, whole_joined, whole_cut, cut_alone, lines_empty}
 use Rattle.bsp_ret.specs.declared.notes.Notes.{Notes}
 use Rattle.bsp_ret.specs.declared.notes.Place.{Place}
 use Rattle.bsp_ret.specs.declared.notes.Span.{Span}

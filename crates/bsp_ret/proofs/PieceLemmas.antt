@@ -10,7 +10,7 @@ use Rattle.bsp_ret.specs.declared.model.Record.TheVariants as said
 use Rattle.bsp_ret.specs.declared.model.Standing.{Standing}
 use Rattle.bsp_ret.specs.declared.notes.Notes.{Notes}
 use Rattle.bsp_ret.specs.declared.notes.Place.{Place}
-use Rattle.bsp_records.specs.Lines.{lines, before_rest, IsWholeLines, BeginsWithLine}
+use Rattle.bsp_fields.specs.Lines.{lines, before_rest, IsWholeLines, BeginsWithLine}
 use Rattle.bsp_ret.specs.Said.{record_in}
 use Rattle.bsp_ret.specs.Table.{kind, standing, has_ended, row_fault, first_fault}
 use Rattle.bsp_ret.specs.Standings.{standing_with, standing_behind, fault_behind, FitsIn}
@@ -18,8 +18,8 @@ use Rattle.bsp_ret.specs.Reading.{Draft, add, read_from, read_all}
 use Rattle.bsp_ret.specs.Payments.{paid_with}
 use Rattle.bsp_ret.specs.Notes.{no_notes, draft_by, draft_of, HasPlaces, IsNoted, IsNotedTo}
 use Rattle.bsp_ret.specs.Pieces.{IsFinal, IsClearSoFar}
-use Rattle.bsp_records.proofs.CutLemmas.{lines_nil, some_lines, IsRest-drop}
-use Rattle.bsp_records.proofs.RestLemmas.{whole_nothing, whole_joined}
+use Rattle.bsp_fields.proofs.CutLemmas.{lines_nil, some_lines, IsRest-drop}
+use Rattle.bsp_fields.proofs.RestLemmas.{whole_nothing, whole_joined}
 use Rattle.bsp_ret.proofs.Rows.{clean}
 use Rattle.bsp_ret.proofs.Steps.{standing_snoc, read_cons}
 use Rattle.bsp_ret.proofs.LawLemmas.{fault_of, behind_cons, read_behind, read_is_fault}

@@ -14,8 +14,8 @@ use Rattle.bsp_ret.specs.declared.model.LastRecord.TheVariants as last
 use Rattle.bsp_ret.specs.declared.model.Standing.{Standing}
 use Rattle.bsp_ret.specs.declared.model.FaultCode.{FaultCode}
 use Rattle.bsp_ret.specs.declared.model.FaultCode.TheVariants.{F01, F02, F03, F04, F05, F06, F07, F09}
-use Rattle.bsp_records.specs.Columns.{identifier, is_wide}
-use Rattle.bsp_records.specs.Fields.{spells}
+use Rattle.bsp_fields.specs.Columns.{identifier, is_wide}
+use Rattle.bsp_fields.specs.Fields.{spells}
 use Rattle.bsp_ret_records.specs.Records.{transaction_number, record_count, transaction_count, total, is_header, is_production, header_fits, sale_fits, related_order, related_fits, amounts_fit, form_of, form_fits, trailer_fits}
 use Rattle.bsp_ret.specs.Table.{has_ended, is_start, is_complete, takes_related, comes_behind, takes_amounts, takes_form, has_value, has_counts, has_sum, header_table, trailer_table, later_table, record_table, row_fault}
 use Rattle.bsp_ret.specs.Ret.{IsHeader, IsRecord, IsTrailer}

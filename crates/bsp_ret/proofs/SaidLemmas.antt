@@ -4,7 +4,7 @@ use Rattle.std.specs.Prelude.{◌==◌, not, is_some, unwrap_or, IfOk, IfErr}
 use Rattle.std.proofs.lemmas.Bool.{cases_Bool, and_parts, not-false}
 use Rattle.bsp_fields.proofs.FirstFaultLemmas.{row_passed}
 use Rattle.bsp_fields.specs.FirstFault.{first_fault_or}
-use Rattle.bsp_records.specs.Columns.{identifier, is_wide}
+use Rattle.bsp_fields.specs.Columns.{identifier, is_wide}
 use Rattle.bsp_ret_records.specs.declared.codes.Profile.TheVariants.{P001}
 use Rattle.bsp_ret.specs.declared.model.FaultCode.{FaultCode}
 use Rattle.bsp_ret.specs.declared.model.FaultCode.TheVariants.{F01, F02, F04, F05, F09}

@@ -7,7 +7,7 @@ use Rattle.bsp_ret_records.specs.declared.transactions.Tax.{Tax}
 use Rattle.bsp_ret_records.specs.declared.transactions.Amounts.{Amounts}
 use Rattle.bsp_ret_records.specs.declared.transactions.CardPayment.{CardPayment}
 use Rattle.bsp_ret_records.specs.declared.transactions.Transaction.{Transaction}
-use Rattle.bsp_records.specs.Taxes.{tax_places}
+use Rattle.bsp_fields.specs.Taxes.{tax_places}
 use Rattle.bsp_ret_records.specs.Records.{document, related_document}
 use Rattle.bsp_ret.specs.Ret.{Group, HasBody}
 use Rattle.bsp_ret.specs.Content.{InBoth, HasRelatedValues, IsContent, HasContent}

@@ -13,7 +13,7 @@ use Rattle.bsp_ret.specs.declared.model.LastRecord.TheVariants as last
 use Rattle.bsp_ret.specs.declared.model.FaultCode.{FaultCode}
 use Rattle.bsp_ret.specs.declared.model.RetFault.{RetFault}
 use Rattle.bsp_ret.specs.declared.model.Standing.{Standing}
-use Rattle.bsp_records.specs.Columns.{identifier}
+use Rattle.bsp_fields.specs.Columns.{identifier}
 use Rattle.bsp_ret_records.specs.Records.{vendor, vendor_fits, profile_of, code_of, sale_fits, related_order, amounts_fit, form_of, form_fits}
 use Rattle.bsp_ret_records.proofs.ReadLemmas.{sale_fields}
 use Rattle.bsp_ret.specs.Table.{total_paid, standing, has_ended, takes_form, has_form, row_fault}

@@ -7,7 +7,7 @@ use Rattle.std.proofs.lemmas.Option.{IfSome_then}
 use Rattle.bsp_ret_records.specs.declared.codes.FormOfPayment.{FormOfPayment}
 use Rattle.bsp_ret_records.specs.declared.codes.TransactionCode.{TransactionCode}
 use Rattle.bsp_ret_records.specs.declared.codes.TransactionCode.TheVariants.{Tktt, Rfnd, Canx}
-use Rattle.bsp_records.specs.Columns.{is_wide}
+use Rattle.bsp_fields.specs.Columns.{is_wide}
 use Rattle.bsp_ret_records.specs.Records.{code_of, related_fits, amounts_fit}
 use Rattle.bsp_ret.specs.Ret.{Group, File, flatten, forms_of, IsRecord, IsForm, IsPaid, AreRelated, HasBody, IsGroup, AreGroups, Ret}
 

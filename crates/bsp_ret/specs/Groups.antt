@@ -4,7 +4,7 @@ use Rattle.std.specs.Option.{option_copied}
 use Rattle.bsp_ret_records.specs.declared.codes.FormOfPayment.{FormOfPayment}
 use Rattle.bsp_ret_records.specs.declared.codes.FormOfPayment.TheVariants.{Cash, Credit, Exchange}
 use Rattle.bsp_ret.specs.declared.records.Records.{Records}
-use Rattle.bsp_records.specs.Columns.{identifier}
+use Rattle.bsp_fields.specs.Columns.{identifier}
 use Rattle.bsp_ret_records.specs.Records.{IsFit, sale_fits, related_fits, amounts_fit, form_of, form_fits}
 use Rattle.bsp_ret.specs.Ret.{Group, IsGroup}
 

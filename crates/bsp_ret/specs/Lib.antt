@@ -14,10 +14,10 @@ pub mod Sales
 pub mod Judging
 pub mod Slices
 pub mod Texts
-pub use Rattle.bsp_records.specs.Columns
-pub use Rattle.bsp_records.specs.Fields
-pub use Rattle.bsp_records.specs.Lines
-pub use Rattle.bsp_records.specs.Taxes
+pub use Rattle.bsp_fields.specs.Columns
+pub use Rattle.bsp_fields.specs.Fields
+pub use Rattle.bsp_fields.specs.Lines
+pub use Rattle.bsp_fields.specs.Taxes
 pub use Rattle.bsp_ret_records.specs.Records
 pub use Rattle.bsp_ret_records.specs.Texts as RetRecordsTexts
 pub use Rattle.bsp_ret_records.specs.Values

@@ -1,7 +1,7 @@
 -- Where the records of a text are, as a reader of pieces notes it.
 use Rattle.std.specs.Prelude.{◌≡◌, ◌≤◌, ◌*◌, ◌^◌, ℕ, pos, unsigned_abs, Bool, true, false, List, [], ◌∷◌, ◌++◌, length, take, drop, map, Ok}
 use Rattle.std.specs.List.{slice_range}
-use Rattle.bsp_records.specs.Lines.{lines, has_end, IsWholeLines}
+use Rattle.bsp_fields.specs.Lines.{lines, has_end, IsWholeLines}
 use Rattle.bsp_ret.specs.declared.notes.Notes.{Notes}
 use Rattle.bsp_ret.specs.declared.notes.Place.{Place}
 use Rattle.bsp_ret.specs.declared.notes.Span.{Span}

@@ -8,7 +8,7 @@ use Rattle.bsp_ret.specs.declared.notes.Notes.{Notes}
 use Rattle.bsp_ret.specs.declared.notes.Place.{Place}
 use Rattle.bsp_ret.specs.declared.pieces.Stop.{Stop}
 use Rattle.bsp_ret.specs.declared.pieces.Stop.TheVariants.{Memory, Fault}
-use Rattle.bsp_records.specs.Lines.{lines, has_end, IsRest, before_rest, IsWholeLines}
+use Rattle.bsp_fields.specs.Lines.{lines, has_end, IsRest, before_rest, IsWholeLines}
 use Rattle.bsp_ret.specs.Table.{standing, has_ended, first_fault}
 use Rattle.bsp_ret.specs.Standings.{fault_behind}
 use Rattle.bsp_ret.specs.Notes.{IsNotedTo, IsFileNoted}

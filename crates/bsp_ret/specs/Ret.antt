@@ -8,8 +8,8 @@ use Rattle.bsp_ret_records.specs.declared.codes.TransactionCode.{TransactionCode
 use Rattle.bsp_ret_records.specs.declared.codes.TransactionCode.TheVariants.{Tktt, Rfnd, Canx}
 use Rattle.bsp_ret_records.specs.declared.codes.FormOfPayment.{FormOfPayment}
 use Rattle.bsp_ret_records.specs.declared.codes.FormOfPayment.TheVariants.{Cash, Credit, Exchange}
-use Rattle.bsp_records.specs.Columns.{identifier, is_wide}
-use Rattle.bsp_records.specs.Fields.{spells}
+use Rattle.bsp_fields.specs.Columns.{identifier, is_wide}
+use Rattle.bsp_fields.specs.Fields.{spells}
 use Rattle.bsp_ret_records.specs.Records.{transaction_number, record_count, transaction_count, total, is_header, is_production, header_fits, profile_of, code_of, sale_fits, related_order, related_fits, amounts_fit, form_of, form_fits, trailer_fits}
 use Rattle.bsp_ret.specs.Table.{is_related, total_paid}
 

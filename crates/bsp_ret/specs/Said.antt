@@ -1,6 +1,6 @@
 -- What a record says, by its identifier.
 use Rattle.std.specs.Prelude.{ℕ, ◌==◌, List, unwrap_or, if◌then◌else◌}
-use Rattle.bsp_records.specs.Columns.{identifier}
+use Rattle.bsp_fields.specs.Columns.{identifier}
 use Rattle.bsp_ret_records.specs.declared.codes.TransactionCode.TheVariants.{Tktt}
 use Rattle.bsp_ret_records.specs.declared.codes.FormOfPayment.TheVariants.{Cash}
 use Rattle.bsp_ret_records.specs.declared.codes.Profile.TheVariants.{P001}

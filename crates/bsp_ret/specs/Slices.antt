@@ -1,6 +1,6 @@
 -- Fields as slices of their records, by the columns of the records.
 use Rattle.std.specs.Prelude.{◌≡◌, ℕ, List, [], ◌∷◌}
-use Rattle.bsp_records.specs.Taxes.{tax_places, code_part, amount_part}
+use Rattle.bsp_fields.specs.Taxes.{tax_places, code_part, amount_part}
 use Rattle.bsp_ret_records.specs.Records.{system_id, file_date, file_time, country, file_number, airline_part, number_part, check_digit_part, transaction_number, transaction_code, agent, document, issued, passenger, related_document, fare, rate, commission, payment_amount, vendor, record_count, transaction_count, total}
 use Rattle.bsp_ret.specs.declared.fields.HeaderFields.{HeaderFields}
 use Rattle.bsp_ret.specs.declared.fields.DocumentFields.{DocumentFields}

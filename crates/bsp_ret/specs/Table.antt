@@ -19,8 +19,8 @@ use Rattle.bsp_ret.specs.declared.model.Standing.{Standing}
 use Rattle.bsp_ret.specs.declared.model.FaultCode.{FaultCode}
 use Rattle.bsp_ret.specs.declared.model.FaultCode.TheVariants.{F01, F02, F03, F04, F05, F06, F07, F08, F09}
 use Rattle.bsp_ret.specs.declared.model.RetFault.{RetFault}
-use Rattle.bsp_records.specs.Columns.{identifier, is_wide}
-use Rattle.bsp_records.specs.Fields.{spells}
+use Rattle.bsp_fields.specs.Columns.{identifier, is_wide}
+use Rattle.bsp_fields.specs.Fields.{spells}
 use Rattle.bsp_ret_records.specs.Records.{transaction_number, record_count, transaction_count, total, is_header, is_production, header_fits, profile_of, code_of, sale_fits, related_order, related_fits, amounts_fit, form_of, form_fits, form_amount, trailer_fits}
 use Rattle.bsp_ret.specs.Said.{record_in}
 

@@ -6,7 +6,7 @@ ghost use Rattle.bsp_ret.specs.Slices.{IsHeaderOf, IsDocumentOf, IsSaleOf, IsRel
 ghost use Rattle.bsp_ret.specs.Groups.{records_of, AreFit};
 
 use crate::records::Records;
-use bsp_records::tax_place;
+use bsp_fields::tax_place;
 use bsp_ret_records::{record_count, transaction_count, transaction_number};
 
 /// The fields of record 1, the header.

@@ -2,8 +2,8 @@
 
 ghost use Rattle.std.specs.Prelude.{◌≡◌, ◌+◌, ◌<◌, ◌≤◌, List, ℕ, [], ◌∷◌, true, length, MatchOption, slice_index_or};
 ghost use Rattle.std.specs.List.{list_all};
-ghost use Rattle.bsp_records.specs.Lines.{lines};
-ghost use Rattle.bsp_records.specs.Columns.{is_wide};
+ghost use Rattle.bsp_fields.specs.Lines.{lines};
+ghost use Rattle.bsp_fields.specs.Columns.{is_wide};
 ghost use Rattle.bsp_ret_records.specs.Records.{sale_fits, trailer_fits, IsFit};
 ghost use Rattle.bsp_ret.specs.Table.{total_paid};
 ghost use Rattle.bsp_ret_records.specs.Values.{IsSale};
@@ -12,8 +12,7 @@ ghost use Rattle.bsp_ret.specs.Groups.{records_of, sale_alone, with_records, Has
 
 use crate::fields::{GroupFields, HeaderFields, TrailerFields};
 use crate::records::Records;
-use bsp_fields::Total;
-use bsp_records::first_record;
+use bsp_fields::{Total, first_record};
 use bsp_ret_records::{PaidSale, sale_values, told_records, told_sum};
 use std::marker::Model;
 
@@ -28,7 +27,7 @@ pub struct Group<'a> {
 impl<'a> Model for Group<'a> {
     ghost use Rattle.std.specs.Prelude.{List, ℕ};
     ghost use Rattle.std.specs.Prelude.{◌≡◌};
-    ghost use Rattle.bsp_records.specs.Lines.{lines};
+    ghost use Rattle.bsp_fields.specs.Lines.{lines};
     ghost use Rattle.bsp_ret.specs.Table.{total_paid};
 
     ghost Value = { List (List ℕ) };

@@ -2,7 +2,7 @@
 
 ghost use Rattle.std.specs.Prelude.{◌≡◌, ◌+◌, ◌*◌, ◌^◌, ◌<◌, ◌≤◌, ◌&&◌, ◌-◌, length, true, false, unsigned_abs, unwrap_or, Ok, Err, IfOk, IfErr, OnOk, OnErr};
 ghost use Rattle.bsp_fields.specs.FirstFault.{first_fault_or};
-ghost use Rattle.bsp_records.specs.Columns.{identifier, is_wide};
+ghost use Rattle.bsp_fields.specs.Columns.{identifier, is_wide};
 ghost use Rattle.bsp_ret_records.specs.Records.{IsFit, profile_of, sale_fits, related_order, related_fits, amounts_fit, form_of, form_fits, trailer_fits};
 ghost use Rattle.bsp_ret.specs.Said.{record_in};
 ghost use Rattle.bsp_ret.specs.Table.{has_ended, has_counts, has_sum, header_table, is_complete, takes_related, comes_behind, takes_amounts, takes_form, transaction_table, trailer_table, later_table, record_table, row_fault};
@@ -10,7 +10,7 @@ ghost use Rattle.bsp_ret.specs.Standings.{standing_behind, FitsIn};
 
 use crate::model::{FaultCode, Record, Standing};
 use crate::standing::comes_behind;
-use bsp_records::{is_wide, spells};
+use bsp_fields::{is_wide, spells};
 use bsp_ret_records::{
     Profile, amounts_fit, form_of, header_fits, is_header, is_production, paid_amount, profile_of,
     record_count, related_fits, related_order, sale_code, told_sum, trailer_fits,

@@ -2,7 +2,7 @@
 
 ghost use Rattle.std.specs.Prelude.{◌≡◌, true, length, ◌≤◌, ◌<◌, ◌*◌, ◌^◌, ◌++◌, ◌∷◌, [], ℕ, List, Err, Some, IfOk, IfErr, IfSome, OnOk, OnErr, unsigned_abs};
 ghost use Rattle.std.specs.Option.{option_to_list};
-ghost use Rattle.bsp_records.specs.Columns.{is_wide};
+ghost use Rattle.bsp_fields.specs.Columns.{is_wide};
 ghost use Rattle.bsp_ret_records.specs.Records.{IsFit, sale_fits};
 ghost use Rattle.bsp_ret_records.specs.declared.codes.TransactionCode.{TransactionCode};
 ghost use Rattle.bsp_ret_records.specs.declared.transactions.PaidSale.{PaidSale as Paid};
@@ -15,7 +15,7 @@ use bsp_ret_records::{PaidSale, sale_values};
 use std::marker::Model;
 
 /// What a RET file adds up to.
-#[derive(Clone, Copy, Debug, PartialEq, Eq)]
+#[derive(Clone, Copy, PartialEq, Eq)]
 pub struct FileTotals {
     /// The records, header and trailer included.
     pub records: usize,

@@ -102,7 +102,7 @@ pub struct Standing {
 }
 
 /// How far a reader of pieces is.
-#[derive(Clone, Copy, Debug, PartialEq, Eq)]
+#[derive(Clone, Copy, PartialEq, Eq)]
 pub enum Progress {
     /// More may come.
     Reading,

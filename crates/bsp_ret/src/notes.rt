@@ -1,7 +1,7 @@
 //! Notes of where the records of a text are.
 
 ghost use Rattle.std.specs.Prelude.{◌≡◌, ◌≤◌, ◌-◌, ◌+◌, ◌*◌, ◌^◌, List, ℕ, Ok, false, length, take, drop, unsigned_abs, OnOk, IfOk, IfErr};
-ghost use Rattle.bsp_records.specs.Lines.{lines, BeginsWithLine};
+ghost use Rattle.bsp_fields.specs.Lines.{lines, BeginsWithLine};
 ghost use Rattle.bsp_ret.specs.Said.{record_in};
 ghost use Rattle.bsp_ret.specs.Table.{kind, has_ended};
 ghost use Rattle.bsp_ret.specs.Reading.{add, with_group, read_all, no_memory};

@@ -1,8 +1,8 @@
 //! Lines that are judged as their bytes come.
 
 ghost use Rattle.std.specs.Prelude.{◌≡◌, ◌≤◌, ◌<◌, ◌+◌, ◌-◌, ◌^◌, List, length, drop, take, false, true, Ok, Err, OnErr, OnOk, IfOk, IfErr, IfSome, IfNone, MatchResult};
-ghost use Rattle.bsp_records.specs.Columns.{is_wide};
-ghost use Rattle.bsp_records.specs.Lines.{lines, has_end, BeginsWithLine};
+ghost use Rattle.bsp_fields.specs.Columns.{is_wide};
+ghost use Rattle.bsp_fields.specs.Lines.{lines, has_end, BeginsWithLine};
 ghost use Rattle.bsp_ret.specs.Said.{record_in};
 ghost use Rattle.bsp_ret.specs.Table.{row_fault};
 ghost use Rattle.bsp_ret.specs.Standings.{FitsIn, standing_behind};
@@ -12,7 +12,7 @@ ghost use Rattle.bsp_ret.specs.Pieces.{IsStop};
 
 use crate::model::{FaultCode, Record, RetFault, Standing};
 use crate::notes::{Notes, Place, Span};
-use bsp_records::{ended_line, first_record};
+use bsp_fields::{ended_line, first_record};
 
 /// Why lines are not judged on.
 #[derive(Clone, Copy)]

@@ -1,7 +1,7 @@
 //! A reader of a file that comes in pieces.
 
 ghost use Rattle.std.specs.Prelude.{◌≡◌, ◌⊎◌, [], ◌++◌, Ok, Err, None, Some, MatchResult, OnOk, IfOk, IfErr, length, ◌<◌};
-ghost use Rattle.bsp_records.specs.Lines.{lines};
+ghost use Rattle.bsp_fields.specs.Lines.{lines};
 ghost use Rattle.bsp_ret.specs.Table.{first_fault};
 ghost use Rattle.bsp_ret.specs.Ret.{File, Ret};
 ghost use Rattle.bsp_ret.specs.Reading.{no_memory};

@@ -1,7 +1,7 @@
 //! A file from its text.
 
 ghost use Rattle.std.specs.Prelude.{◌≡◌, ◌⊎◌, List, ℕ, [], IfOk, IfErr, Ok, Err, Some};
-ghost use Rattle.bsp_records.specs.Lines.{lines};
+ghost use Rattle.bsp_fields.specs.Lines.{lines};
 ghost use Rattle.bsp_ret.specs.Table.{first_fault};
 ghost use Rattle.bsp_ret.specs.Ret.{File, Ret};
 ghost use Rattle.bsp_ret.specs.Reading.{no_memory};

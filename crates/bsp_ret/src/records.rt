@@ -2,10 +2,10 @@
 
 ghost use Rattle.std.specs.Prelude.{◌≡◌, ◌<◌, ◌∷◌, List, ℕ, true, length};
 ghost use Rattle.std.specs.List.{list_all};
-ghost use Rattle.bsp_records.specs.Lines.{lines};
-ghost use Rattle.bsp_records.specs.Columns.{is_wide};
+ghost use Rattle.bsp_fields.specs.Lines.{lines};
+ghost use Rattle.bsp_fields.specs.Columns.{is_wide};
 
-use bsp_records::first_line;
+use bsp_fields::first_line;
 use bsp_ret_records::{FormOfPayment, form_of};
 
 /// The records of a transaction, as slices of the text, without their line ends.

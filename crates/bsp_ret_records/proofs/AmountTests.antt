@@ -1,9 +1,9 @@
 -- Lemmas on the test of record 5.
 use Rattle.std.proofs.Common.{◌≡◌, Bool, true, false, ◌&&◌, List, ℕ, refl, ◌∙◌}
 use Rattle.std.specs.List.{list_all}
-use Rattle.bsp_records.specs.Columns.{columns, is_space}
-use Rattle.bsp_records.specs.Fields.{is_amount, spells_at_most}
-use Rattle.bsp_records.proofs.TaxPlaces.{rest_fits, rest_fits-first}
+use Rattle.bsp_fields.specs.Columns.{columns, is_space}
+use Rattle.bsp_fields.specs.Fields.{is_amount, spells_at_most}
+use Rattle.bsp_fields.proofs.TaxPlaces.{rest_fits, rest_fits-first}
 use Rattle.bsp_ret_records.specs.Records.{fare, rate, commission, amounts_fit}
 
 -- a test of two, of which the second was asked where the first passed

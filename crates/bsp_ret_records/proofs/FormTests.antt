@@ -3,8 +3,8 @@ use Rattle.std.proofs.Common.{◌≡◌, ℕ, false, List, Some, None, refl}
 use Rattle.std.specs.Prelude.{◌&&◌}
 use Rattle.std.specs.List.{list_all}
 use Rattle.std.proofs.lemmas.Bool.{and_right}
-use Rattle.bsp_records.specs.Columns.{columns, is_space}
-use Rattle.bsp_records.specs.Fields.{is_amount}
+use Rattle.bsp_fields.specs.Columns.{columns, is_space}
+use Rattle.bsp_fields.specs.Fields.{is_amount}
 use Rattle.bsp_ret_records.specs.declared.codes.FormOfPayment.{FormOfPayment}
 use Rattle.bsp_ret_records.specs.Records.{form_of, payment_amount, vendor, vendor_fits, form_fits}
 

@@ -4,5 +4,5 @@ pub mod ValueLemmas
 pub mod OrderLemmas
 pub mod AmountTests
 pub mod FormTests
-pub use Rattle.bsp_records.proofs.CharacterLemmas
-pub use Rattle.bsp_records.proofs.DigitLemmas
+pub use Rattle.bsp_fields.proofs.CharacterLemmas
+pub use Rattle.bsp_fields.proofs.DigitLemmas

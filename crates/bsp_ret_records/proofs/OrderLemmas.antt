@@ -11,7 +11,7 @@ use Rattle.bsp_fields.specs.declared.fault.FieldFault.{FieldFault}
 use Rattle.bsp_fields.specs.declared.fault.FieldFault.TheVariants.{Width, NotDigit}
 use Rattle.bsp_fields.proofs.DecimalLemmas.{number_of-lt}
 use Rattle.bsp_fields.proofs.FirstFaultLemmas.{row_passed, value_told}
-use Rattle.bsp_records.specs.Columns.{columns}
+use Rattle.bsp_fields.specs.Columns.{columns}
 use Rattle.bsp_ret_records.specs.declared.transactions.ReportedDocument.{ReportedDocument}
 use Rattle.bsp_ret_records.specs.Records.{related_document, order_of}
 use Rattle.bsp_ret_records.specs.Values.{IsDocument, is_before}

@@ -11,12 +11,12 @@ use Rattle.bsp_fields.specs.declared.fault.FieldFault.{FieldFault}
 use Rattle.bsp_fields.specs.declared.fault.FieldFault.TheVariants.{Width, NotDigit, NotSign}
 use Rattle.bsp_fields.proofs.FirstFaultLemmas.{row_passed}
 use Rattle.bsp_ret_records.specs.declared.transactions.Tax.{Tax}
-use Rattle.bsp_records.specs.Columns.{columns, is_space, is_wide, is_printable}
+use Rattle.bsp_fields.specs.Columns.{columns, is_space, is_wide, is_printable}
 use Rattle.bsp_ret_records.specs.Records.{code_of, agent_and_document, agent, document, issued, sale_fits, related_document, related_fits}
-use Rattle.bsp_records.specs.Fields.{is_record_day}
-use Rattle.bsp_records.specs.Taxes.{tax_code, tax_fits, taxes_fit}
+use Rattle.bsp_fields.specs.Fields.{is_record_day}
+use Rattle.bsp_fields.specs.Taxes.{tax_code, tax_fits, taxes_fit}
 use Rattle.bsp_ret_records.specs.Values.{IsTax}
-use Rattle.bsp_records.proofs.CharacterLemmas.{digits_are, list_all-take, list_all-drop}
+use Rattle.bsp_fields.proofs.CharacterLemmas.{digits_are, list_all-take, list_all-drop}
 
 -- columns of a record are printable
 pub printable_columns : (line : List ℕ) (from to : ℕ) → is_wide line ≡ true → list_all is_printable (columns from to line) ≡ true

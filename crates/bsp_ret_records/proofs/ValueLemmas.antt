@@ -5,9 +5,9 @@ use Rattle.std.specs.List.{list_all}
 use Rattle.std.specs.Str.{all_ascii_digits}
 use Rattle.std.proofs.lemmas.Bool.{and_parts, cases_Bool, or_right, leb-true}
 use Rattle.bsp_fields.specs.Decimal.{number_of}
-use Rattle.bsp_records.specs.Columns.{columns, is_space}
-use Rattle.bsp_records.specs.Fields.{is_amount, is_total, spells_at_most}
-use Rattle.bsp_records.specs.Taxes.{tax_places, tax_code, tax_fits, taxes_fit}
+use Rattle.bsp_fields.specs.Columns.{columns, is_space}
+use Rattle.bsp_fields.specs.Fields.{is_amount, is_total, spells_at_most}
+use Rattle.bsp_fields.specs.Taxes.{tax_places, tax_code, tax_fits, taxes_fit}
 use Rattle.bsp_ret_records.specs.Records.{fare, rate, commission, amounts_fit, payment_amount, vendor, vendor_fits, form_of, form_fits, record_count, transaction_count, total, trailer_fits}
 use Rattle.bsp_ret_records.proofs.ReadLemmas.{blank_rest, used_rest}
 

@@ -2,7 +2,7 @@
 pub mod Texts
 pub mod Records
 pub mod Values
-pub use Rattle.bsp_records.specs.Columns
-pub use Rattle.bsp_records.specs.Fields
-pub use Rattle.bsp_records.specs.Lines
-pub use Rattle.bsp_records.specs.Taxes
+pub use Rattle.bsp_fields.specs.Columns
+pub use Rattle.bsp_fields.specs.Fields
+pub use Rattle.bsp_fields.specs.Lines
+pub use Rattle.bsp_fields.specs.Taxes

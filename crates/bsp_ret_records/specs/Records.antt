@@ -5,9 +5,9 @@ use Rattle.std.specs.List.{list_all}
 use Rattle.std.specs.Str.{all_ascii_digits, bytes_eq}
 use Rattle.bsp_fields.specs.Decimal.{number_of}
 use Rattle.bsp_fields.specs.Zoned.{zoned_reading}
-use Rattle.bsp_records.specs.Columns.{columns, identifier, is_letter, is_letter_or_digit, is_space}
-use Rattle.bsp_records.specs.Fields.{spells_at_most, is_amount, is_total, is_record_day}
-use Rattle.bsp_records.specs.Taxes.{tax_places, taxes_fit}
+use Rattle.bsp_fields.specs.Columns.{columns, identifier, is_letter, is_letter_or_digit, is_space}
+use Rattle.bsp_fields.specs.Fields.{spells_at_most, is_amount, is_total, is_record_day}
+use Rattle.bsp_fields.specs.Taxes.{tax_places, taxes_fit}
 use Rattle.bsp_ret_records.specs.declared.codes.Profile.{Profile}
 use Rattle.bsp_ret_records.specs.declared.codes.Profile.TheVariants.{P001, P002}
 use Rattle.bsp_ret_records.specs.declared.codes.TransactionCode.{TransactionCode}
@@ -118,7 +118,7 @@ related_order line = order_of (related_document line)
 unfoldable pub related_fits : List ℕ → Bool
 related_fits line = all_ascii_digits (related_document line) && list_all is_space (columns 22 136 line)
 
--- ---- record 5, amounts; its tax places are bsp_records'
+-- ---- record 5, amounts; its tax places are bsp_fields'
 
 abbrev pub fare : List ℕ → List ℕ
 fare line = columns 8 18 line

@@ -5,8 +5,8 @@ use Rattle.bsp_fields.specs.Decimal.{number_of}
 use Rattle.bsp_fields.specs.Zoned.{zoned_reading}
 use Rattle.bsp_fields.specs.Codes.{code_reading}
 use Rattle.bsp_fields.specs.Days.{record_reading}
-use Rattle.bsp_records.specs.Columns.{is_space}
-use Rattle.bsp_records.specs.Taxes.{tax_places, code_part, amount_part}
+use Rattle.bsp_fields.specs.Columns.{is_space}
+use Rattle.bsp_fields.specs.Taxes.{tax_places, code_part, amount_part}
 use Rattle.bsp_ret_records.specs.declared.transactions.ReportedDocument.{ReportedDocument}
 use Rattle.bsp_ret_records.specs.declared.transactions.Sale.{Sale}
 use Rattle.bsp_ret_records.specs.declared.transactions.Tax.{Tax}

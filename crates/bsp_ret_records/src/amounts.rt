@@ -2,14 +2,14 @@
 
 ghost use Rattle.std.specs.Prelude.{◌≡◌, ◌<◌, ◌||◌, [], true, length, slice_index_or};
 ghost use Rattle.std.specs.List.{list_all};
-ghost use Rattle.bsp_records.specs.Columns.{is_space};
-ghost use Rattle.bsp_records.specs.Taxes.{tax_fits, tax_places};
+ghost use Rattle.bsp_fields.specs.Columns.{is_space};
+ghost use Rattle.bsp_fields.specs.Taxes.{tax_fits, tax_places};
 ghost use Rattle.bsp_ret_records.specs.Records.{IsFit, fare, rate, commission, amounts_fit};
 ghost use Rattle.bsp_ret_records.specs.Values.{IsTax, AreAmounts};
 
 use crate::columns::{amount_of, array_of};
 use crate::transactions::{Amounts, Tax};
-use bsp_records::{all_spaces, is_amount, number_of, spells_at_most, tax_place, taxes_fit};
+use bsp_fields::{all_spaces, is_amount, number_of, spells_at_most, tax_place, taxes_fit};
 
 #[inline]
 fn fare(line: &[u8]) -> &[u8]

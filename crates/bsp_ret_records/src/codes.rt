@@ -4,7 +4,7 @@ ghost use Rattle.std.specs.Prelude.{◌≡◌};
 ghost use Rattle.bsp_ret_records.specs.Texts.{code_text};
 
 /// A transaction code of record 2.
-#[derive(Clone, Copy, Debug, PartialEq, Eq)]
+#[derive(Clone, Copy, PartialEq, Eq)]
 pub enum TransactionCode {
     /// A sale.
     Tktt,
@@ -15,7 +15,7 @@ pub enum TransactionCode {
 }
 
 /// A profile of RET files, columns 28 to 30 of the header.
-#[derive(Clone, Copy, Debug, PartialEq, Eq)]
+#[derive(Clone, Copy, PartialEq, Eq)]
 pub enum Profile {
     /// 001: an exchange has one related document.
     P001,
@@ -24,7 +24,7 @@ pub enum Profile {
 }
 
 /// A form of payment of record 8.
-#[derive(Clone, Copy, Debug, PartialEq, Eq)]
+#[derive(Clone, Copy, PartialEq, Eq)]
 pub enum FormOfPayment {
     /// CA.
     Cash,

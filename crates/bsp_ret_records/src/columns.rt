@@ -4,7 +4,7 @@ ghost use Rattle.std.specs.Prelude.{◌≡◌, true, length, Ok};
 ghost use Rattle.std.specs.Str.{all_ascii_digits};
 ghost use Rattle.bsp_fields.specs.Zoned.{zoned_reading};
 ghost use Rattle.bsp_fields.specs.Days.{record_reading};
-ghost use Rattle.bsp_records.specs.Fields.{is_amount, is_record_day};
+ghost use Rattle.bsp_fields.specs.Fields.{is_amount, is_record_day};
 ghost use Rattle.bsp_ret_records.specs.Records.{transaction_number};
 ghost use Rattle.bsp_ret_records.specs.Values.{IsDocument};
 

@@ -4,7 +4,7 @@ ghost use Rattle.std.specs.Prelude.{◌≡◌, length};
 ghost use Rattle.bsp_ret_records.specs.Records.{profile_of, is_header, is_production, header_fits};
 
 use crate::codes::Profile;
-use bsp_records::{
+use bsp_fields::{
     all_digits, all_letters, all_letters_or_digits, all_spaces, is_record_day, spells_at_most,
 };
 

@@ -7,8 +7,7 @@ ghost use Rattle.bsp_ret_records.specs.Values.{IsPayment, IsCardPayment};
 use crate::codes::FormOfPayment;
 use crate::columns::{amount_of, array_of};
 use crate::transactions::CardPayment;
-use bsp_fields::{Amount, read_amount};
-use bsp_records::{all_letters_or_digits, all_spaces};
+use bsp_fields::{Amount, all_letters_or_digits, all_spaces, read_amount};
 
 #[inline]
 fn payment_amount(line: &[u8]) -> &[u8]

@@ -6,7 +6,7 @@ ghost use Rattle.bsp_ret_records.specs.Values.{IsRelated};
 
 use crate::columns::document_of;
 use crate::transactions::ReportedDocument;
-use bsp_records::{all_digits, all_spaces, number_of};
+use bsp_fields::{all_digits, all_spaces, number_of};
 
 #[inline]
 fn related_document(line: &[u8]) -> &[u8]

@@ -7,7 +7,7 @@ ghost use Rattle.bsp_ret_records.specs.Values.{IsSale};
 use crate::codes::TransactionCode;
 use crate::columns::{array_of, day_of, document_of};
 use crate::transactions::Sale;
-use bsp_records::{all_digits, all_spaces, is_record_day};
+use bsp_fields::{all_digits, all_spaces, is_record_day};
 
 /// The agent's eight digits and the document's fourteen.
 #[inline]

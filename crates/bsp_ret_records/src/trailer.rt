@@ -5,8 +5,7 @@ ghost use Rattle.bsp_fields.specs.Decimal.{number_of};
 ghost use Rattle.bsp_fields.specs.Zoned.{zoned_reading};
 ghost use Rattle.bsp_ret_records.specs.Records.{IsFit, record_count, transaction_count, total, trailer_fits};
 
-use bsp_fields::{Total, read_total};
-use bsp_records::{all_digits, all_spaces, is_total, number_of};
+use bsp_fields::{Total, all_digits, all_spaces, is_total, number_of, read_total};
 
 /// The number of records that a trailer reports, in seven characters.
 #[inline]

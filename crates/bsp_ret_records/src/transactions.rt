@@ -5,12 +5,11 @@ ghost use Rattle.std.specs.Str.{all_ascii_digits};
 ghost use Rattle.bsp_ret_records.specs.Values.{is_before};
 
 use crate::codes::TransactionCode;
-use bsp_fields::{AirlineCode, Amount, Day};
-use bsp_records::number_of;
+use bsp_fields::{AirlineCode, Amount, Day, number_of};
 
 /// A document as it is reported, its check digit not judged: columns 20 to 33 of record 2, and 8 to
 /// 21 of record 3.
-#[derive(Clone, Copy, Debug, PartialEq, Eq)]
+#[derive(Clone, Copy, PartialEq, Eq)]
 pub struct ReportedDocument {
     /// The airline, three digits.
     pub airline: AirlineCode,
@@ -33,7 +32,7 @@ impl ReportedDocument {
 }
 
 /// A used tax place of record 5, 13 columns from 19 on.
-#[derive(Clone, Copy, Debug, PartialEq, Eq)]
+#[derive(Clone, Copy, PartialEq, Eq)]
 pub struct Tax {
     /// Two characters `A` to `Z` or `0` to `9`.
     pub code: [u8; 2],
@@ -42,7 +41,7 @@ pub struct Tax {
 }
 
 /// Record 5.
-#[derive(Clone, Copy, Debug, PartialEq, Eq)]
+#[derive(Clone, Copy, PartialEq, Eq)]
 pub struct Amounts {
     /// Columns 8 to 18, in minor units.
     pub fare: Amount,
@@ -55,7 +54,7 @@ pub struct Amounts {
 }
 
 /// A record 8 with form CC.
-#[derive(Clone, Copy, Debug, PartialEq, Eq)]
+#[derive(Clone, Copy, PartialEq, Eq)]
 pub struct CardPayment {
     /// Columns 10 to 20, in minor units.
     pub amount: Amount,
@@ -64,7 +63,7 @@ pub struct CardPayment {
 }
 
 /// The values of a record 2, but for the passenger.
-#[derive(Clone, Copy, Debug, PartialEq, Eq)]
+#[derive(Clone, Copy, PartialEq, Eq)]
 pub struct Sale {
     /// Columns 8 to 11.
     pub code: TransactionCode,
@@ -77,7 +76,7 @@ pub struct Sale {
 }
 
 /// A record 2, and what its transaction pays.
-#[derive(Clone, Copy, Debug, PartialEq, Eq)]
+#[derive(Clone, Copy, PartialEq, Eq)]
 pub struct PaidSale {
     /// The record 2.
     pub sale: Sale,
@@ -86,7 +85,7 @@ pub struct PaidSale {
 }
 
 /// The values of a transaction: of its record 2, and of its records 3, 5 and 8 where it has them.
-#[derive(Clone, Copy, Debug, PartialEq, Eq)]
+#[derive(Clone, Copy, PartialEq, Eq)]
 pub struct Transaction {
     /// Columns 8 to 11 of record 2.
     pub code: TransactionCode,

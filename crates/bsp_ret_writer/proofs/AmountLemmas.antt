@@ -9,17 +9,17 @@ use Rattle.bsp_fields.specs.Decimal.{fixed_digits}
 use Rattle.bsp_fields.specs.Zoned.{spelling}
 use Rattle.bsp_fields.proofs.DecimalLemmas.{length-fixed_digits, digits-fixed_digits, number_of-fixed_digits}
 use Rattle.bsp_ret_records.specs.declared.transactions.Amounts.{Amounts}
-use Rattle.bsp_records.specs.Columns.{columns, identifier, is_wide, is_printable, is_space}
-use Rattle.bsp_records.specs.Fields.{is_amount, spells_at_most}
-use Rattle.bsp_records.specs.Taxes.{tax_places, taxes_fit}
+use Rattle.bsp_fields.specs.Columns.{columns, identifier, is_wide, is_printable, is_space}
+use Rattle.bsp_fields.specs.Fields.{is_amount, spells_at_most}
+use Rattle.bsp_fields.specs.Taxes.{tax_places, taxes_fit}
 use Rattle.bsp_ret_records.specs.Records.{transaction_number, fare as fare_of, rate as rate_of, commission as commission_of, amounts_fit}
 use Rattle.bsp_ret.specs.Ret.{IsRecord}
 use Rattle.bsp_ret_records.specs.Values.{AreAmounts, AreTaxes}
 use Rattle.bsp_ret_writer.specs.GroupValues.{are_taxes, are_amounts}
 use Rattle.bsp_ret_writer.specs.Writing.{amounts_line, tax_text, spaces}
-use Rattle.bsp_records.proofs.FieldLemmas.{field_at, wide_fields}
-use Rattle.bsp_records.proofs.CharacterLemmas.{printable-digits, printable-spelling, length-spelling, list_all-replicate}
-use Rattle.bsp_records.proofs.TextLemmas.{spells-digits, spells_at_most-digits, is_amount-spelling, amount_reads}
+use Rattle.bsp_fields.proofs.FieldLemmas.{field_at, wide_fields}
+use Rattle.bsp_fields.proofs.CharacterLemmas.{printable-digits, printable-spelling, length-spelling, list_all-replicate}
+use Rattle.bsp_fields.proofs.TextLemmas.{spells-digits, spells_at_most-digits, is_amount-spelling, amount_reads}
 use Rattle.bsp_ret_writer.proofs.TaxLemmas.{taxes_fit-texts, length-texts, printable-texts, texts-read}
 use Rattle.bsp_ret_writer.specs.Stored.{IsStoredAmounts}
 

@@ -10,13 +10,13 @@ use Rattle.bsp_fields.specs.Decimal.{number_of}
 use Rattle.bsp_fields.proofs.DecimalLemmas.{number_of-lt}
 use Rattle.bsp_ret_records.specs.declared.transactions.ReportedDocument.{ReportedDocument}
 use Rattle.bsp_ret_records.specs.declared.transactions.Tax.{Tax}
-use Rattle.bsp_records.specs.Columns.{columns, is_letter_or_digit, is_space}
-use Rattle.bsp_records.specs.Fields.{is_amount}
-use Rattle.bsp_records.specs.Taxes.{tax_code, tax_fits, taxes_fit}
+use Rattle.bsp_fields.specs.Columns.{columns, is_letter_or_digit, is_space}
+use Rattle.bsp_fields.specs.Fields.{is_amount}
+use Rattle.bsp_fields.specs.Taxes.{tax_code, tax_fits, taxes_fit}
 use Rattle.bsp_ret_records.specs.Values.{IsDocument, AreTaxes}
 use Rattle.bsp_ret_writer.specs.GroupValues.{is_document, are_taxes}
 use Rattle.bsp_ret_records.proofs.ReadLemmas.{no_tax, blank_rest, used_rest}
-use Rattle.bsp_records.proofs.CharacterLemmas.{digits_are, list_all-take, list_all-drop}
+use Rattle.bsp_fields.proofs.CharacterLemmas.{digits_are, list_all-take, list_all-drop}
 
 -- ---- documents
 

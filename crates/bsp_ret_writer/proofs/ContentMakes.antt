@@ -12,9 +12,9 @@ use Rattle.bsp_ret_records.specs.declared.transactions.ReportedDocument.{Reporte
 use Rattle.bsp_ret_records.specs.declared.transactions.Amounts.{Amounts}
 use Rattle.bsp_ret_records.specs.declared.transactions.CardPayment.{CardPayment}
 use Rattle.bsp_ret_records.specs.declared.transactions.Transaction.{Transaction}
-use Rattle.bsp_records.specs.Columns.{columns, is_space, is_letter_or_digit, is_printable}
-use Rattle.bsp_records.specs.Fields.{is_amount}
-use Rattle.bsp_records.specs.Taxes.{tax_places}
+use Rattle.bsp_fields.specs.Columns.{columns, is_space, is_letter_or_digit, is_printable}
+use Rattle.bsp_fields.specs.Fields.{is_amount}
+use Rattle.bsp_fields.specs.Taxes.{tax_places}
 use Rattle.bsp_ret_records.specs.Records.{document, related_document, payment_amount, vendor, vendor_fits, form_of, form_fits, related_fits, amounts_fit}
 use Rattle.bsp_ret.specs.Ret.{Group, IsRecord, IsForm, IsPaid, AreRelated, HasBody}
 use Rattle.bsp_ret.specs.Content.{InBoth, HasRelatedValues, IsContent, HasContent}

@@ -9,16 +9,16 @@ use Rattle.bsp_fields.specs.Codes.{code_reading}
 use Rattle.bsp_fields.proofs.DecimalLemmas.{length-fixed_digits, digits-fixed_digits, number_of-fixed_digits}
 use Rattle.bsp_fields.proofs.CodeLemmas.{code_reading-fixed_digits}
 use Rattle.bsp_ret_records.specs.declared.transactions.ReportedDocument.{ReportedDocument}
-use Rattle.bsp_records.specs.Columns.{columns, identifier, is_wide, is_printable, is_space}
+use Rattle.bsp_fields.specs.Columns.{columns, identifier, is_wide, is_printable, is_space}
 use Rattle.bsp_ret_records.specs.Records.{transaction_number, related_document, related_order, related_fits}
 use Rattle.bsp_ret.specs.Ret.{IsRecord}
 use Rattle.bsp_ret_records.specs.Values.{IsDocument, IsRelated, is_before}
 use Rattle.bsp_ret_records.proofs.OrderLemmas.{HasNumber, order_rises}
 use Rattle.bsp_ret_writer.specs.GroupValues.{is_document}
 use Rattle.bsp_ret_writer.specs.Writing.{document_fields, related_line, spaces}
-use Rattle.bsp_records.proofs.FieldLemmas.{field_at, fields_at, wide_fields}
-use Rattle.bsp_records.proofs.CharacterLemmas.{printable-digits, list_all-replicate, digits-concat}
-use Rattle.bsp_records.proofs.TextLemmas.{spells-digits}
+use Rattle.bsp_fields.proofs.FieldLemmas.{field_at, fields_at, wide_fields}
+use Rattle.bsp_fields.proofs.CharacterLemmas.{printable-digits, list_all-replicate, digits-concat}
+use Rattle.bsp_fields.proofs.TextLemmas.{spells-digits}
 use Rattle.bsp_ret_writer.specs.Stored.{IsStoredDocument}
 
 -- what the test of a document says

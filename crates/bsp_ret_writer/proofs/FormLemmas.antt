@@ -7,15 +7,15 @@ use Rattle.bsp_fields.specs.Zoned.{spelling}
 use Rattle.bsp_fields.proofs.DecimalLemmas.{length-fixed_digits, digits-fixed_digits}
 use Rattle.bsp_ret_records.specs.declared.codes.FormOfPayment.{FormOfPayment}
 use Rattle.bsp_ret_records.specs.declared.codes.FormOfPayment.TheVariants.{Cash, Credit, Exchange}
-use Rattle.bsp_records.specs.Columns.{columns, identifier, is_wide, is_printable, is_space, is_letter_or_digit}
-use Rattle.bsp_records.specs.Fields.{is_amount}
+use Rattle.bsp_fields.specs.Columns.{columns, identifier, is_wide, is_printable, is_space, is_letter_or_digit}
+use Rattle.bsp_fields.specs.Fields.{is_amount}
 use Rattle.bsp_ret_records.specs.Records.{transaction_number, payment_amount, vendor as vendor_of, vendor_fits, form_of, form_fits}
 use Rattle.bsp_ret.specs.Ret.{IsForm}
 use Rattle.bsp_ret_records.specs.Values.{IsPayment}
 use Rattle.bsp_ret_writer.specs.Writing.{form_line, spaces}
-use Rattle.bsp_records.proofs.FieldLemmas.{field_at, wide_fields}
-use Rattle.bsp_records.proofs.TextLemmas.{spells-digits, is_amount-spelling, amount_reads}
-use Rattle.bsp_records.proofs.CharacterLemmas.{printable-digits, printable-letters, printable-spelling, length-spelling, list_all-replicate}
+use Rattle.bsp_fields.proofs.FieldLemmas.{field_at, wide_fields}
+use Rattle.bsp_fields.proofs.TextLemmas.{spells-digits, is_amount-spelling, amount_reads}
+use Rattle.bsp_fields.proofs.CharacterLemmas.{printable-digits, printable-letters, printable-spelling, length-spelling, list_all-replicate}
 
 -- the columns of a record 8
 pub record FormColumns (line number form amount vendor rest : List ℕ) : Type 0 where

@@ -10,5 +10,5 @@ pub mod ContentLemmas
 pub mod ContentMakes
 pub mod WritingLemmas
 pub mod WrittenFile
-pub use Rattle.bsp_records.proofs.CharacterLemmas
-pub use Rattle.bsp_records.proofs.TextLemmas
+pub use Rattle.bsp_fields.proofs.CharacterLemmas
+pub use Rattle.bsp_fields.proofs.TextLemmas

@@ -11,17 +11,17 @@ use Rattle.bsp_fields.proofs.DayTextLemmas.{record_reading-text}
 use Rattle.bsp_ret_records.specs.declared.codes.TransactionCode.{TransactionCode}
 use Rattle.bsp_ret_records.specs.declared.codes.TransactionCode.TheVariants.{Tktt, Rfnd, Canx}
 use Rattle.bsp_ret_records.specs.declared.transactions.Transaction.{Transaction}
-use Rattle.bsp_records.specs.Columns.{columns, identifier, is_wide, is_printable, is_space}
-use Rattle.bsp_records.specs.Fields.{is_record_day}
+use Rattle.bsp_fields.specs.Columns.{columns, identifier, is_wide, is_printable, is_space}
+use Rattle.bsp_fields.specs.Fields.{is_record_day}
 use Rattle.bsp_ret_records.specs.Records.{transaction_number, agent_and_document, agent as agent_of, document as document_of, issued as issued_of, passenger as passenger_of, code_of, sale_fits}
 use Rattle.bsp_ret.specs.Ret.{IsRecord}
 use Rattle.bsp_ret_records.specs.Values.{IsDocument}
 use Rattle.bsp_ret_writer.specs.GroupValues.{is_document}
 use Rattle.bsp_ret_records.specs.Texts.{code_text}
 use Rattle.bsp_ret_writer.specs.Writing.{sale_line, spaces}
-use Rattle.bsp_records.proofs.FieldLemmas.{field_at, fields_at, wide_fields}
-use Rattle.bsp_records.proofs.CharacterLemmas.{printable-digits, list_all-replicate, digits-concat}
-use Rattle.bsp_records.proofs.TextLemmas.{spells-digits}
+use Rattle.bsp_fields.proofs.FieldLemmas.{field_at, fields_at, wide_fields}
+use Rattle.bsp_fields.proofs.CharacterLemmas.{printable-digits, list_all-replicate, digits-concat}
+use Rattle.bsp_fields.proofs.TextLemmas.{spells-digits}
 use Rattle.bsp_ret_writer.proofs.DocumentLemmas.{document_reads, document_facts}
 use Rattle.bsp_ret_writer.specs.Stored.{IsStored}
 

@@ -8,13 +8,13 @@ use Rattle.std.proofs.lemmas.List.{take_at, drop_at, take_all, get_or_append_lef
 use Rattle.std.proofs.lemmas.List.Folds.{list_all-append}
 use Rattle.bsp_fields.specs.Zoned.{spelling}
 use Rattle.bsp_ret_records.specs.declared.transactions.Tax.{Tax}
-use Rattle.bsp_records.specs.Columns.{columns, is_letter_or_digit, is_printable, is_space}
-use Rattle.bsp_records.specs.Taxes.{tax_code, tax_fits, taxes_fit}
+use Rattle.bsp_fields.specs.Columns.{columns, is_letter_or_digit, is_printable, is_space}
+use Rattle.bsp_fields.specs.Taxes.{tax_code, tax_fits, taxes_fit}
 use Rattle.bsp_ret_records.specs.Values.{AreTaxes}
 use Rattle.bsp_ret_writer.specs.GroupValues.{are_taxes}
 use Rattle.bsp_ret_writer.specs.Writing.{tax_text}
-use Rattle.bsp_records.proofs.CharacterLemmas.{printable-letters, printable-spelling, length-spelling}
-use Rattle.bsp_records.proofs.TextLemmas.{amount_reads}
+use Rattle.bsp_fields.proofs.CharacterLemmas.{printable-letters, printable-spelling, length-spelling}
+use Rattle.bsp_fields.proofs.TextLemmas.{amount_reads}
 use Rattle.bsp_ret_writer.specs.Stored.{InEach, IsStoredTax}
 
 letter_or_digit-no_space : (c : ℕ) → is_letter_or_digit c ≡ true → is_space c ≡ false

@@ -13,9 +13,9 @@ use Rattle.bsp_fields.specs.Decimal.{number_of}
 use Rattle.bsp_fields.proofs.DecimalLemmas.{number_of-lt}
 use Rattle.bsp_ret_records.specs.declared.transactions.Transaction.{Transaction}
 use Rattle.bsp_ret_records.specs.declared.transactions.CardPayment.{CardPayment}
-use Rattle.bsp_records.specs.Lines.{lines, has_end, without_cr}
-use Rattle.bsp_records.specs.Columns.{columns, identifier, is_wide, is_printable, is_space}
-use Rattle.bsp_records.specs.Fields.{is_total, spells}
+use Rattle.bsp_fields.specs.Lines.{lines, has_end, without_cr}
+use Rattle.bsp_fields.specs.Columns.{columns, identifier, is_wide, is_printable, is_space}
+use Rattle.bsp_fields.specs.Fields.{is_total, spells}
 use Rattle.bsp_ret_records.specs.Records.{transaction_number, record_count, transaction_count, total, sale_fits, related_fits, amounts_fit, trailer_fits, form_amount}
 use Rattle.bsp_ret.specs.Table.{is_related, paid, total_paid}
 use Rattle.bsp_ret.specs.Ret.{File, flatten, forms_of, IsRecord, IsForm, HasBody, AreGroups, has_one_related, IsTrailer, Ret, file_lines}
@@ -27,7 +27,7 @@ use Rattle.bsp_ret_records.specs.declared.codes.TransactionCode.{TransactionCode
 use Rattle.bsp_ret_records.specs.declared.codes.FormOfPayment.{FormOfPayment}
 use Rattle.bsp_ret_records.specs.declared.codes.FormOfPayment.TheVariants.{Cash, Credit, Exchange}
 use Rattle.bsp_ret_writer.specs.Writing.{spaces, group_lines, written_groups, trailer_line, text_of, written_file, HaveContents, AreWritten, IsWritten, IsWrittenTrailer}
-use Rattle.bsp_records.proofs.CutLemmas.{lines_nil, lines_cut}
+use Rattle.bsp_fields.proofs.CutLemmas.{lines_nil, lines_cut}
 use Rattle.bsp_ret_writer.proofs.WritingLemmas.{text_of-append}
 use Rattle.bsp_ret_writer.proofs.ContentMakes.{content_makes, first_of_places, second_of_places}
 use Rattle.bsp_ret.proofs.BodyLemmas.{body_facts, first_related, second_related}
@@ -37,8 +37,8 @@ use Rattle.bsp_ret.proofs.GroupLemmas.{wide_length}
 use Rattle.bsp_ret.proofs.TrailerLemmas.{same_sum_of}
 use Rattle.bsp_ret.proofs.Wide.{wide_all}
 use Rattle.bsp_ret_records.proofs.ValueLemmas.{trailer_fields}
-use Rattle.bsp_records.proofs.FieldLemmas.{field_at, wide_fields}
-use Rattle.bsp_records.proofs.CharacterLemmas.{printable-digits, printable-spelling, length-spelling, list_all-replicate}
+use Rattle.bsp_fields.proofs.FieldLemmas.{field_at, wide_fields}
+use Rattle.bsp_fields.proofs.CharacterLemmas.{printable-digits, printable-spelling, length-spelling, list_all-replicate}
 use Rattle.bsp_ret_writer.proofs.WrittenGroup.{written_group}
 
 -- ---- one more group

@@ -12,7 +12,7 @@ use Rattle.bsp_ret_records.specs.declared.transactions.ReportedDocument.{Reporte
 use Rattle.bsp_ret_records.specs.declared.transactions.Amounts.{Amounts}
 use Rattle.bsp_ret_records.specs.declared.transactions.CardPayment.{CardPayment}
 use Rattle.bsp_ret_records.specs.declared.transactions.Transaction.{Transaction}
-use Rattle.bsp_records.specs.Columns.{is_printable}
+use Rattle.bsp_fields.specs.Columns.{is_printable}
 use Rattle.bsp_ret_records.specs.Records.{related_fits, amounts_fit}
 use Rattle.bsp_ret.specs.Ret.{IsRecord, IsForm, IsPaid, AreRelated, HasBody}
 use Rattle.bsp_ret.specs.Content.{InBoth, HasRelatedValues, HasContent}

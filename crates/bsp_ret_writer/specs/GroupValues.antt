@@ -2,8 +2,8 @@
 use Rattle.std.specs.Prelude.{ℕ, nat_le, nat_lt, Bool, true, false, ◌&&◌, ◌||◌, not, List, [], ◌∷◌, Option, Some, None, is_some, is_none, if◌then◌else◌, slice_index_or}
 use Rattle.std.specs.List.{list_all}
 use Rattle.std.specs.Str.{all_ascii_digits}
-use Rattle.bsp_records.specs.Columns.{is_letter_or_digit, is_printable}
-use Rattle.bsp_records.specs.Taxes.{tax_code}
+use Rattle.bsp_fields.specs.Columns.{is_letter_or_digit, is_printable}
+use Rattle.bsp_fields.specs.Taxes.{tax_code}
 use Rattle.bsp_ret_records.specs.declared.codes.TransactionCode.{TransactionCode}
 use Rattle.bsp_ret_records.specs.declared.codes.TransactionCode.TheVariants.{Tktt, Rfnd, Canx}
 use Rattle.bsp_ret_records.specs.declared.transactions.ReportedDocument.{ReportedDocument}

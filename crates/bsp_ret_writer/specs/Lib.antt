@@ -2,5 +2,5 @@
 pub mod Stored
 pub mod GroupValues
 pub mod Writing
-pub use Rattle.bsp_records.specs.Columns
-pub use Rattle.bsp_records.specs.Taxes
+pub use Rattle.bsp_fields.specs.Columns
+pub use Rattle.bsp_fields.specs.Taxes

@@ -11,7 +11,7 @@ use Rattle.bsp_ret_records.specs.declared.transactions.Tax.{Tax}
 use Rattle.bsp_ret_records.specs.declared.transactions.Amounts.{Amounts}
 use Rattle.bsp_ret_records.specs.declared.transactions.CardPayment.{CardPayment}
 use Rattle.bsp_ret_records.specs.declared.transactions.Transaction.{Transaction}
-use Rattle.bsp_records.specs.Lines.{lines}
+use Rattle.bsp_fields.specs.Lines.{lines}
 use Rattle.bsp_ret_records.specs.Records.{record_count, transaction_count, total}
 use Rattle.bsp_ret.specs.Ret.{Group, File, file_lines, lines_of, flatten, Ret}
 use Rattle.bsp_ret_writer.specs.GroupValues.{related_of, second_of}

@@ -5,11 +5,11 @@ ghost use Rattle.bsp_ret_records.specs.Values.{is_before};
 ghost use Rattle.bsp_ret_writer.specs.Stored.{InEach, IsStored, IsStoredTax};
 ghost use Rattle.bsp_ret_writer.specs.GroupValues.{is_document, are_related, are_taxes, are_amounts, is_group_values, MakesGroup};
 
-use bsp_records::{all_digits, all_letters_or_digits, all_printable};
+use bsp_fields::{all_digits, all_letters_or_digits, all_printable};
 use bsp_ret_records::{Amounts, ReportedDocument, Tax, Transaction, TransactionCode};
 
 /// The digits of a document are digits, and its check digit is one.
-#[tactic(auto, using(bsp_records::proofs::CharacterLemmas::digits_are), unfolding(crate::specs::GroupValues::is_document))]
+#[tactic(auto, using(bsp_fields::proofs::CharacterLemmas::digits_are), unfolding(crate::specs::GroupValues::is_document))]
 fn fits_document(document: &ReportedDocument) -> bool
     ensures { result ≡ is_document document.now }
 {
@@ -68,7 +68,7 @@ fn fits_amounts(amounts: &Amounts) -> bool
 }
 
 /// The test of the values.
-#[tactic(auto, using(bsp_records::proofs::CharacterLemmas::digits_are), unfolding(crate::specs::GroupValues::is_group_values, crate::specs::GroupValues::is_card, crate::specs::GroupValues::has_parts))]
+#[tactic(auto, using(bsp_fields::proofs::CharacterLemmas::digits_are), unfolding(crate::specs::GroupValues::is_group_values, crate::specs::GroupValues::is_card, crate::specs::GroupValues::has_parts))]
 fn fits_group(transaction: &Transaction) -> bool
     ensures { result ≡ is_group_values transaction.now }
 {

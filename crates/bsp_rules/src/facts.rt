@@ -5,7 +5,7 @@ use bsp_fields::PeriodCode;
 use bsp_ret_records::ReportedDocument;
 
 /// What of an agent's own rows bears on one transaction.
-#[derive(Clone, Copy, Debug, PartialEq, Eq)]
+#[derive(Clone, Copy, PartialEq, Eq)]
 pub struct Facts {
     /// Whether the agent is registered.
     pub registered: bool,
@@ -23,7 +23,7 @@ pub struct Facts {
 }
 
 /// What is there under a transaction's own number.
-#[derive(Clone, Copy, Debug, PartialEq, Eq)]
+#[derive(Clone, Copy, PartialEq, Eq)]
 pub struct OwnNumber {
     /// Whether a transaction of any code has been accepted with it.
     pub is_used: bool,
@@ -38,7 +38,7 @@ pub struct OwnNumber {
 }
 
 /// What is there under a related document.
-#[derive(Clone, Copy, Debug, PartialEq, Eq)]
+#[derive(Clone, Copy, PartialEq, Eq)]
 pub struct RelatedDocument {
     /// The document, as the transaction reports it.
     pub document: ReportedDocument,

@@ -7,7 +7,7 @@ use bsp_fields::{AgentCode, Amount, DocNumber, PeriodCode};
 use bsp_ret_records::Transaction;
 
 /// A transaction as it was accepted.
-#[derive(Clone, Copy, Debug, PartialEq, Eq)]
+#[derive(Clone, Copy, PartialEq, Eq)]
 pub struct Item {
     /// The agent that it bears.
     pub agent: AgentCode,
@@ -33,7 +33,7 @@ impl Item {
 }
 
 /// A range of an agent's stock, both ends included.
-#[derive(Clone, Copy, Debug, PartialEq, Eq)]
+#[derive(Clone, Copy, PartialEq, Eq)]
 pub struct Range {
     /// The first document number.
     pub first: DocNumber,

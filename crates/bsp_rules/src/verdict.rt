@@ -8,7 +8,7 @@ use std::error::Error;
 use std::fmt;
 
 /// Who reports a transaction.
-#[derive(Clone, Copy, Debug, PartialEq, Eq)]
+#[derive(Clone, Copy, PartialEq, Eq)]
 pub enum Reporter {
     /// The office, for any agent.
     Office,
@@ -47,7 +47,7 @@ pub enum Refusal {
 }
 
 /// The verdict on a transaction.
-#[derive(Clone, Copy, Debug, PartialEq, Eq)]
+#[derive(Clone, Copy, PartialEq, Eq)]
 pub enum Verdict {
     /// It was accepted before, in this period.
     Held(PeriodCode),

@@ -21,7 +21,7 @@ use std::alloc::Global;
 use std::fmt;
 
 /// What a sound book has.
-#[derive(Clone, Copy, Debug, PartialEq, Eq)]
+#[derive(Clone, Copy, PartialEq, Eq)]
 pub struct Summary {
     /// The business day.
     pub day: Day,

@@ -1,4 +1,4 @@
-use Rattle.bsp_records.specs.Lines.{lines}
+use Rattle.bsp_fields.specs.Lines.{lines}
 use Rattle.bsp_check.proofs.JudgingLemmas.{judged_taken, judged_refusal}
 use Rattle.bsp_check.proofs.reporting.judged_report.Goals as goal
 

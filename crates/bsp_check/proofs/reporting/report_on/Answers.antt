@@ -1,4 +1,4 @@
-use Rattle.bsp_records.specs.Lines.{lines}
+use Rattle.bsp_fields.specs.Lines.{lines}
 use Rattle.bsp_check.proofs.JudgingLemmas.{judged_few}
 use Rattle.bsp_check.proofs.reporting.report_on.Goals as goal
 

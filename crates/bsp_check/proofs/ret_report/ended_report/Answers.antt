@@ -2,7 +2,7 @@ use Rattle.std.proofs.Common.{◌∙◌, refl, ap, inl, arith}
 use Rattle.std.specs.Int.{w128}
 use Rattle.std.proofs.lemmas.Int.{to_z-of_z, fits_signed_from_abs}
 use Rattle.bsp_check.specs.RetReport.{total_text}
-use Rattle.bsp_records.specs.Lines.{lines}
+use Rattle.bsp_fields.specs.Lines.{lines}
 use Rattle.bsp_check.proofs.RetReports.{few_records, is_file_report, refused_end}
 use Rattle.bsp_check.proofs.ret_report.ended_report.Goals as goal
 

@@ -1,5 +1,5 @@
 use Rattle.std.proofs.Common.{sym, ◌∙◌}
-use Rattle.bsp_records.specs.Lines.{lines}
+use Rattle.bsp_fields.specs.Lines.{lines}
 use Rattle.bsp_explain.proofs.FaultLemmas.{clear_file, says_of_missing}
 use Rattle.bsp_explain.proofs.explanation.explain_ret.Goals as goal
 

@@ -1,6 +1,6 @@
 use Rattle.std.proofs.Common.{◌≡◌, Err, length, sym, ap, subst, ◌∙◌, arith}
-use Rattle.bsp_records.specs.Lines.{lines}
-use Rattle.bsp_records.proofs.RestLemmas.{lines_empty}
+use Rattle.bsp_fields.specs.Lines.{lines}
+use Rattle.bsp_fields.proofs.RestLemmas.{lines_empty}
 use Rattle.bsp_ret.specs.declared.model.Standing.{Standing}
 use Rattle.bsp_ret.specs.Table.{row_fault}
 use Rattle.bsp_explain.proofs.FaultLemmas.{IsJudgedTo, judged_nothing, fits_nothing, judged_more, judged_fails, judged_all}

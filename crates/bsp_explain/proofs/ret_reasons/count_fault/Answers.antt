@@ -1,6 +1,6 @@
 use Rattle.std.proofs.Common.{sym, ◌∙◌}
 use Rattle.std.specs.Prelude.{not, ◌||◌}
-use Rattle.bsp_records.specs.Columns.{is_wide}
+use Rattle.bsp_fields.specs.Columns.{is_wide}
 use Rattle.bsp_ret_records.specs.Records.{trailer_fits}
 use Rattle.bsp_ret.specs.Table.{has_counts}
 use Rattle.bsp_explain.proofs.RowLemmas.{narrow_or-two, unfit_or, none_or}

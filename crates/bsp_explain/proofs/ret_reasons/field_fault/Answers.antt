@@ -1,5 +1,5 @@
 use Rattle.std.specs.Prelude.{not}
-use Rattle.bsp_records.specs.Columns.{is_wide}
+use Rattle.bsp_fields.specs.Columns.{is_wide}
 use Rattle.bsp_ret.specs.Table.{is_start}
 use Rattle.bsp_explain.specs.RetReasons.{record_fits}
 use Rattle.bsp_explain.proofs.RowLemmas.{narrow_or, none_or}

@@ -1,6 +1,6 @@
 use Rattle.std.proofs.Common.{refl, sym, ◌∙◌}
 use Rattle.std.specs.Prelude.{◌&&◌, not}
-use Rattle.bsp_records.specs.Columns.{is_wide}
+use Rattle.bsp_fields.specs.Columns.{is_wide}
 use Rattle.bsp_ret.specs.Table.{is_start}
 use Rattle.bsp_explain.specs.RetReasons.{record_fits, may_be_second}
 use Rattle.bsp_explain.proofs.RowLemmas.{narrow_or, second_fits, form_passed}

@@ -1,7 +1,7 @@
 use Rattle.std.proofs.Common.{◌≡◌, ℕ, ◌+◌, true, false, ◌∙◌, List, [], refl, sym, Option, None}
 use Rattle.std.specs.Prelude.{IfSome, IfNone}
 use Rattle.std.specs.List.{list_all}
-use Rattle.bsp_records.specs.Columns.{is_space}
+use Rattle.bsp_fields.specs.Columns.{is_space}
 use Rattle.bsp_explain.specs.declared.field.Field.{Field}
 use Rattle.bsp_explain.specs.Fields.{all_fit, first_unfit, IsAtFault}
 use Rattle.bsp_explain.specs.TaxFields.{place_first, place_at, is_after_unused, code_before, unused_place_fields, used_place_fields, place_fields}

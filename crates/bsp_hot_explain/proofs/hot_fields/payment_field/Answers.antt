@@ -1,6 +1,6 @@
 use Rattle.std.proofs.Common.{◌≡◌, ℕ, true, false, List, [], ◌∷◌, Option}
 use Rattle.std.specs.Prelude.{IfSome, IfNone}
-use Rattle.bsp_records.specs.Columns.{columns}
+use Rattle.bsp_fields.specs.Columns.{columns}
 use Rattle.bsp_hot_records.specs.declared.form.FileForm.{FileForm}
 use Rattle.bsp_hot_records.specs.declared.name.RecordName.TheVariants.{Bkp84}
 use Rattle.bsp_hot_records.specs.Records.{fields_fit}

@@ -1,6 +1,6 @@
 use Rattle.std.proofs.Common.{◌≡◌, ◌&&◌, refl, sym, ◌∙◌}
 use Rattle.std.specs.List.{list_all}
-use Rattle.bsp_records.specs.Columns.{columns, is_letter, is_space}
+use Rattle.bsp_fields.specs.Columns.{columns, is_letter, is_space}
 use Rattle.bsp_hot_records.specs.Records.{record_of, fields_fit}
 use Rattle.bsp_hot_records.proofs.TestLemmas.{asked, spared}
 use Rattle.bsp_hot_records.proofs.records.office_header.Goals as goal

@@ -1,7 +1,7 @@
 use Rattle.std.proofs.Common.{◌≡◌, Bool, ◌&&◌, List, ℕ, refl, sym, ◌∙◌}
 use Rattle.std.specs.List.{list_all}
-use Rattle.bsp_records.specs.Columns.{columns, is_space}
-use Rattle.bsp_records.specs.Fields.{is_record_day}
+use Rattle.bsp_fields.specs.Columns.{columns, is_space}
+use Rattle.bsp_fields.specs.Fields.{is_record_day}
 use Rattle.bsp_hot_records.specs.Records.{record_of, fields_fit}
 use Rattle.bsp_hot_records.proofs.TestLemmas.{asked, spared}
 use Rattle.bsp_hot_records.proofs.records.period_header.Goals as goal

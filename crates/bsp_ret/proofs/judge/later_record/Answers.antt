@@ -1,6 +1,6 @@
 use Rattle.std.proofs.Common.{arith, ◌∙◌}
 use Rattle.std.proofs.lemmas.Bool.{ne_eqb}
-use Rattle.bsp_records.specs.Columns.{identifier}
+use Rattle.bsp_fields.specs.Columns.{identifier}
 use Rattle.bsp_ret.proofs.SaidLemmas.{trailer_says}
 use Rattle.bsp_ret.proofs.judge.later_record.Goals as goal
 

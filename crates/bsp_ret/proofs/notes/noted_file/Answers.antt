@@ -1,5 +1,5 @@
 use Rattle.std.proofs.Common.{length}
-use Rattle.bsp_records.specs.Lines.{lines}
+use Rattle.bsp_fields.specs.Lines.{lines}
 use Rattle.bsp_ret.specs.Notes.{file_of}
 use Rattle.bsp_ret.proofs.LawLemmas.{is_file}
 use Rattle.bsp_ret.proofs.NoteLemmas.{places_further}

@@ -1,6 +1,6 @@
 use Rattle.std.proofs.Common.{List, ℕ, refl, subst, ◌≡◌, ◌∙◌, [], inr, sym, ap}
 use Rattle.std.proofs.lemmas.List.{append-nil}
-use Rattle.bsp_records.specs.Lines.{lines}
+use Rattle.bsp_fields.specs.Lines.{lines}
 use Rattle.bsp_ret.specs.Table.{first_fault}
 use Rattle.bsp_ret.proofs.AnswerLemmas.{read_fault}
 use Rattle.bsp_ret.proofs.FeedLemmas.{noted_on}

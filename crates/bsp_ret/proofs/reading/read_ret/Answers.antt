@@ -1,5 +1,5 @@
 use Rattle.std.proofs.Common.{Err, ap, inl, inr}
-use Rattle.bsp_records.specs.Lines.{lines}
+use Rattle.bsp_fields.specs.Lines.{lines}
 use Rattle.bsp_ret.proofs.AnswerLemmas.{answer_found, answer_only, answer_fault, faulty}
 use Rattle.bsp_ret.proofs.reading.read_ret.Goals as goal
 

@@ -1,9 +1,9 @@
 use Rattle.std.proofs.Common.{◌≡◌, ◌&&◌, refl, sym, ap, ◌∙◌}
 use Rattle.std.specs.List.{list_all}
-use Rattle.bsp_records.specs.Columns.{columns, is_space}
-use Rattle.bsp_records.specs.Fields.{is_amount, spells_at_most}
+use Rattle.bsp_fields.specs.Columns.{columns, is_space}
+use Rattle.bsp_fields.specs.Fields.{is_amount, spells_at_most}
 use Rattle.bsp_ret_records.specs.Records.{fare, rate, commission, amounts_fit}
-use Rattle.bsp_records.proofs.TaxPlaces.{rest_fits, rest_fits-first}
+use Rattle.bsp_fields.proofs.TaxPlaces.{rest_fits, rest_fits-first}
 use Rattle.bsp_ret_records.proofs.AmountTests.{asked, spared, amounts_fit-parts}
 use Rattle.bsp_ret_records.proofs.amounts.amounts_fit.Goals as goal
 use Rattle.bsp_ret_records.proofs.amounts.amounts_fit.Goals.{Joined-spells_at_most, then-is_amount, else-is_amount, then-taxes_fit, else-taxes_fit, then-spells_at_most, else-spells_at_most}

@@ -1,8 +1,8 @@
 use Rattle.std.proofs.Common.{arith, ap, ◌∙◌}
 use Rattle.std.specs.Str.{all_ascii_digits}
 use Rattle.bsp_fields.specs.Decimal.{number_of}
-use Rattle.bsp_records.specs.Fields.{is_amount}
-use Rattle.bsp_records.specs.Taxes.{tax_places}
+use Rattle.bsp_fields.specs.Fields.{is_amount}
+use Rattle.bsp_fields.specs.Taxes.{tax_places}
 use Rattle.bsp_ret_records.proofs.ValueLemmas.{amounts_fields, place_at, place_fits}
 use Rattle.bsp_ret_records.proofs.amounts.amounts_values.Goals as goal
 

@@ -1,5 +1,5 @@
 use Rattle.std.proofs.Common.{arith, sym, ◌∙◌}
-use Rattle.bsp_records.proofs.DigitLemmas.{digit_at, digit_from, digit_number}
+use Rattle.bsp_fields.proofs.DigitLemmas.{digit_at, digit_from, digit_number}
 use Rattle.std.specs.Prelude.{slice_index}
 use Rattle.bsp_ret_records.proofs.columns.document_of.Goals as goal
 

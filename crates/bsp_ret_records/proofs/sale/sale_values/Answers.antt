@@ -1,6 +1,6 @@
 use Rattle.std.proofs.Common.{◌≡◌, false, is_some, sym, ap, ◌∙◌}
 use Rattle.std.specs.Str.{all_ascii_digits}
-use Rattle.bsp_records.specs.Fields.{is_record_day}
+use Rattle.bsp_fields.specs.Fields.{is_record_day}
 use Rattle.bsp_ret_records.specs.Records.{code_of}
 use Rattle.bsp_ret_records.proofs.ReadLemmas.{sale_fields}
 use Rattle.bsp_ret_records.proofs.sale.sale_values.Goals as goal

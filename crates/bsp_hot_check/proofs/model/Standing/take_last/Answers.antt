@@ -1,5 +1,5 @@
 use Rattle.std.proofs.Common.{sym, ◌∙◌, arith}
-use Rattle.bsp_records.proofs.RestLemmas.{lines_empty}
+use Rattle.bsp_fields.proofs.RestLemmas.{lines_empty}
 use Rattle.bsp_hot_check.proofs.PieceLemmas.{passes_none, passes_more, passes_all, are_refused, narrow_refused}
 use Rattle.bsp_hot_check.proofs.model.Standing.take_last.Goals as goal
 

@@ -1,5 +1,5 @@
 use Rattle.std.proofs.Common.{◌<◌, List, ℕ, length, sym, subst}
-use Rattle.bsp_records.proofs.RestLemmas.{some_bytes}
+use Rattle.bsp_fields.proofs.RestLemmas.{some_bytes}
 use Rattle.bsp_ret.proofs.file.Group.records.Goals as goal
 
 pub of-requires-clause-some : goal.of-requires-clause-some

@@ -1,7 +1,7 @@
 use Rattle.std.proofs.Common.{◌≡◌, ◌<◌, ◌∙◌, List, ◌∷◌, ℕ, true, length, sym, subst}
 use Rattle.std.specs.List.{list_all}
-use Rattle.bsp_records.specs.Columns.{is_wide}
-use Rattle.bsp_records.proofs.RestLemmas.{some_bytes}
+use Rattle.bsp_fields.specs.Columns.{is_wide}
+use Rattle.bsp_fields.proofs.RestLemmas.{some_bytes}
 use Rattle.bsp_ret_records.specs.Values.{IsSale}
 use Rattle.bsp_ret.proofs.GroupLemmas.{no_other}
 use Rattle.bsp_ret.proofs.file.Group.sale.Goals as goal

@@ -1,5 +1,5 @@
 use Rattle.std.proofs.Common.{◌≡◌, ap}
-use Rattle.bsp_records.specs.Lines.{lines}
+use Rattle.bsp_fields.specs.Lines.{lines}
 use Rattle.bsp_ret.specs.Notes.{IsFileNoted}
 use Rattle.bsp_ret.specs.Pieces.{Fed}
 use Rattle.bsp_ret.proofs.AnswerLemmas.{answer_found, answer_only}

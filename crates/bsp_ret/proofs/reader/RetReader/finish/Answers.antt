@@ -1,5 +1,5 @@
 use Rattle.std.proofs.Common.{◌≡◌, ◌∙◌, refl, sym, ap}
-use Rattle.bsp_records.specs.Lines.{lines}
+use Rattle.bsp_fields.specs.Lines.{lines}
 use Rattle.bsp_ret.specs.Pieces.{Fed}
 use Rattle.bsp_ret.specs.Notes.{IsNotedTo}
 use Rattle.bsp_ret.proofs.LawLemmas.{fault_of, read_is_fault}

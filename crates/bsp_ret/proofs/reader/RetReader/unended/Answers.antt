@@ -1,7 +1,7 @@
 use Rattle.std.proofs.Common.{◌≡◌, ◌+◌, ◌<◌, ◌∙◌, List, ℕ, length, refl, ap, arith}
 use Rattle.bsp_ret.specs.declared.model.FaultCode.TheVariants.{F08}
 use Rattle.bsp_ret.specs.declared.model.RetFault.{RetFault}
-use Rattle.bsp_records.specs.Lines.{lines}
+use Rattle.bsp_fields.specs.Lines.{lines}
 use Rattle.bsp_ret.specs.Pieces.{Fed, fault_at_end}
 use Rattle.bsp_ret.proofs.FeedLemmas.{known_reading, came_some}
 use Rattle.bsp_ret.proofs.reader.RetReader.unended.Goals as goal

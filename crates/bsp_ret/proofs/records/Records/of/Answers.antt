@@ -1,7 +1,7 @@
 use Rattle.std.proofs.Common.{◌∙◌, sym, ap}
-use Rattle.bsp_records.specs.Lines.{lines}
+use Rattle.bsp_fields.specs.Lines.{lines}
 use Rattle.bsp_ret.specs.Groups.{records_of, with_records}
-use Rattle.bsp_records.proofs.RestLemmas.{lines_empty}
+use Rattle.bsp_fields.proofs.RestLemmas.{lines_empty}
 use Rattle.bsp_ret.proofs.GroupLemmas.{with_nothing, with_one, first_wide}
 use Rattle.bsp_ret.proofs.records.Records.of.Goals as goal
 

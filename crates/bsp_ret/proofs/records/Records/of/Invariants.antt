@@ -1,7 +1,7 @@
 use Rattle.std.proofs.Common.{◌≡◌, ◌∷◌, List, ℕ, true, length}
 use Rattle.std.specs.List.{list_all}
-use Rattle.bsp_records.specs.Lines.{lines}
-use Rattle.bsp_records.specs.Columns.{is_wide}
+use Rattle.bsp_fields.specs.Lines.{lines}
+use Rattle.bsp_fields.specs.Columns.{is_wide}
 use Rattle.bsp_ret.specs.Groups.{records_of, sale_alone, with_records}
 use Rattle.bsp_ret.proofs.records.Records.of.Given as goal
 

@@ -1,3 +1,0 @@
--- Why the bodies meet their contracts.
-pub mod ListLemmas
-pub mod TextLemmas

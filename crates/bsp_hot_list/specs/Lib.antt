@@ -1,3 +1,0 @@
--- What the contracts of the list of a HOT file cite.
-pub mod Listed
-pub mod Taken

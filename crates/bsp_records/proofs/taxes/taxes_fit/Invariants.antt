@@ -1,6 +1,0 @@
-use Rattle.std.proofs.Common.{◌≡◌}
-use Rattle.bsp_records.proofs.TaxPlaces.{rest_fits}
-use Rattle.bsp_records.proofs.taxes.taxes_fit.Given as goal
-
-abbrev pub invariant-loop-index : goal.invariant-loop-index
-invariant-loop-index l = rest_fits l.line 0 0 ≡ rest_fits l.line l.index l.before
