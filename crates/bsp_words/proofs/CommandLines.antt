@@ -1,6 +1,8 @@
 -- Lemmas on the words of a command line.
 use Rattle.std.proofs.Common.{◌≡◌, ◌∙◌, ◌^◌, ◌&&◌, Bool, true, false, ℕ, List, [], ◌∷◌, length, Option, Some, None, ap, refl, sym, arith, lt-ltb, ltb-true}
-use Rattle.std.specs.Prelude.{Result, Ok, Err, IfOk, IfErr, is_some, nat_lt, option_and_then}
+use Rattle.std.specs.Prelude.{Box, Result, Ok, Err, IfOk, IfErr, codes, if◌then◌else◌, is_some, nat_lt, option_and_then, option_map}
+use Rattle.std.specs.Str.{bytes_eq}
+use Rattle.std.specs.Box.{box_value}
 use Rattle.std.specs.Result.{result_ok}
 use Rattle.std.specs.Char.{digit_value}
 use Rattle.std.specs.List.{list_all}
@@ -9,16 +11,21 @@ use Rattle.clap.proofs.WalkLemmas.{both, one_text-rows}
 use Rattle.clap.specs.ValueTests.{is_numeral}
 use Rattle.clap.specs.Matches.{ReadsOne, one_text}
 use Rattle.clap.specs.declared.parser.matches.Found.{Found}
-use Rattle.clap.specs.Words.{App, FailsBy, HasKind, HasMatchesOf, Row, Shape, Text, built, fault_of, is_simple, is_simple_and_free, rows_of, subcommand_of, subcommand_rows_of}
+use Rattle.clap.specs.Words.{App, FailsBy, HasKind, HasMatchesOf, Row, Shape, Text, built, fault_of, found_of, is_simple, is_simple_and_free, rows_of, subcommand_name_of, subcommand_of, subcommand_rows, subcommand_rows_of}
 use Rattle.clap.specs.declared.error.Error.{Error}
 use Rattle.clap.specs.declared.parser.matches.ArgMatches.{ArgMatches}
+use Rattle.clap.specs.declared.parser.matches.ArgMatches.TheViews.{out-ArgMatches, out-SubCommand}
+use Rattle.clap.specs.declared.parser.matches.SubCommand.{SubCommand}
 use Rattle.clap.specs.Simple.{argument_words, entered, names_of}
 use Rattle.clap.specs.Kinds.{Kinds, or_else}
 use Rattle.clap.specs.Faults.{check_fault, defaults_fault, level_fault, settle_fault, entered_fault, walk_fault}
 use Rattle.clap.specs.Walk.{Held, Names, finished, nothing_held, settled, walk, walk_from}
 use Rattle.bsp_words.specs.declared.work.Misfit.{Misfit}
 use Rattle.bsp_words.specs.declared.work.WordsFault.TheVariants.{OutOfForm}
-use Rattle.bsp_words.specs.CommandLine.{AnswersWords, number_in, number_read, office, work_from, work_in}
+use Rattle.bsp_words.specs.declared.work.CommandName.{CommandName}
+use Rattle.bsp_words.specs.declared.work.CommandName.TheVariants as command
+use Rattle.bsp_words.specs.declared.work.SingleName.TheVariants as single
+use Rattle.bsp_words.specs.CommandLine.{AnswersWords, audit_work, body_work, check_work, command_named, command_work, explain_work, hotcheck_work, judge_work, number_in, number_read, office, plan_work, run_work, serve_work, single_in, work_from, work_in}
 
 -- ---- numbers
 
@@ -107,3 +114,55 @@ refused_words a words (Err e) same kinds = (rw same at kinds) simple_and_free
 
 pub none_answers : (words : List Text) (misfit : Misfit) → fault_of office words ≡ [] → None ≡ work_from words (subcommand_of office words) → AnswersWords words (Err (OutOfForm misfit))
 none_answers words misfit none is = (none, out_of_form words _ (names_one office words refl none) is)
+
+-- ---- the work of a command
+
+by_tests : (words : List Text) (rows : List Row) (judge plan check hotcheck audit run serve body explain : Bool) →
+    (if judge then judge_work words rows
+    else if plan then plan_work rows
+    else if check then check_work rows
+    else if hotcheck then hotcheck_work rows
+    else if audit then audit_work rows
+    else if run then run_work rows
+    else if serve then serve_work rows
+    else if body then body_work rows
+    else if explain then explain_work rows
+    else None) ≡ option_and_then (command_work words rows)
+    (if judge then Some command.Judge
+    else if plan then Some command.Plan
+    else if check then Some (command.Single single.Check)
+    else if hotcheck then Some (command.Single single.Hotcheck)
+    else if audit then Some (command.Single single.Audit)
+    else if run then Some (command.Single single.Run)
+    else if serve then Some (command.Single single.Serve)
+    else if body then Some (command.Single single.Body)
+    else if explain then Some (command.Single single.Explain)
+    else None)
+by_tests words rows true plan check hotcheck audit run serve body explain = refl
+by_tests words rows false true check hotcheck audit run serve body explain = refl
+by_tests words rows false false true hotcheck audit run serve body explain = refl
+by_tests words rows false false false true audit run serve body explain = refl
+by_tests words rows false false false false true run serve body explain = refl
+by_tests words rows false false false false false true serve body explain = refl
+by_tests words rows false false false false false false true body explain = refl
+by_tests words rows false false false false false false false true explain = refl
+by_tests words rows false false false false false false false false true = refl
+by_tests words rows false false false false false false false false false = refl
+
+-- the work of a name is that of its command
+by_name : (words : List Text) (name : Text) (rows : List Row) → work_in words name rows ≡ option_and_then (command_work words rows) (command_named name)
+unfolding work_in single_in command_named
+by_name words name rows =
+    by_tests words rows (bytes_eq name (codes "judge")) (bytes_eq name (codes "plan")) (bytes_eq name (codes "check")) (bytes_eq name (codes "hotcheck")) (bytes_eq name (codes "audit"))
+    (bytes_eq name (codes "run")) (bytes_eq name (codes "serve")) (bytes_eq name (codes "body")) (bytes_eq name (codes "explain"))
+
+-- and so is that of what was found
+pub found_by_name : (words : List Text) (m : ArgMatches) (name : Text) (rows : List Row) (command : Option CommandName) → Some name ≡ subcommand_name_of m → Some rows ≡ option_map (λ p. p.1) (subcommand_rows_of m) → command ≡ command_named name → work_from words (subcommand_rows_of m) ≡ option_and_then (command_work words rows) command
+found_by_name words m name rows command = go ((out-ArgMatches m).subcommand)
+  where
+    go : {Z : Type 0} (sub : Option (Box SubCommand Z)) → Some name ≡ option_map (λ b. (out-SubCommand (box_value b)).name.now) sub → Some rows ≡ option_map (λ p. p.1) (subcommand_rows sub) → command ≡ command_named name → work_from words (subcommand_rows sub) ≡ option_and_then (command_work words rows) command
+    go None is has named = cc
+    go (Some b) is has named =
+        let same : name ≡ (out-SubCommand (box_value b)).name.now = cc in
+        let these : rows ≡ rows_of (found_of (out-SubCommand (box_value b)).matches) = cc in
+        rw (named, same, these) (by_name words (out-SubCommand (box_value b)).name.now (rows_of (found_of (out-SubCommand (box_value b)).matches)))

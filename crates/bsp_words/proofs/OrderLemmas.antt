@@ -1,13 +1,14 @@
 -- The order of options among the words, and lists of values that are read.
 use Rattle.std.proofs.Common.{◌≡◌, ◌∙◌, ◌++◌, ◌+◌, ◌<◌, ℕ, List, [], ◌∷◌, Option, Some, None, ap, append_assoc, drop, get_or, length, map, option_map, refl, sym}
-use Rattle.std.specs.Prelude.{is_some}
+use Rattle.std.specs.Prelude.{codes, is_some}
 use Rattle.std.specs.Borrow.{Bor}
 use Rattle.std.proofs.lemmas.List.{at_drop_more}
-use Rattle.clap.specs.Words.{Text}
-use Rattle.bsp_words.specs.CommandLine.{all_read, texts_in}
+use Rattle.clap.specs.Words.{Row, Text, first_of}
+use Rattle.bsp_words.specs.CommandLine.{AskedLists, all_read, judge, judge_work, lists_in, lists_of, setting_from, setting_of, texts_in, with_lists}
 use Rattle.bsp_words.specs.Order.{as_list, in_order, mark_of, marks_in}
 use Rattle.bsp_words.specs.declared.order.Mark.{Mark}
 use Rattle.bsp_words.specs.declared.work.Earlier.{Earlier}
+use Rattle.bsp_words.specs.declared.work.Setting.{Setting}
 
 marks_of_one : (word : Text) (o : Option Mark) (rest : List Text) → o ≡ mark_of word → marks_in (word ∷ rest) ≡ as_list o ++ marks_in rest
 marks_of_one word o rest is = rw is (go (mark_of word) refl)
@@ -50,3 +51,8 @@ read_no_more read items texts i d whole within is was =
 pub some_of : {X Y : Type 0} (f : X → Y) (o : Option X) (p : Option Y) → option_map f o ≡ p → is_some o ≡ is_some p
 some_of f None p is = ap is_some is
 some_of f (Some x) p is = ap is_some is
+
+-- a setting that was made empty, and that has the lists then
+pub judged : (words : List Text) (rows : List Row) (file : Text) (empty filled : Setting) → Some file ≡ first_of (codes "FILE") rows → ((lists : AskedLists) → Some (with_lists lists empty) ≡ setting_from lists rows) → ((lists : AskedLists) → with_lists lists filled ≡ with_lists lists empty) → Some (lists_of filled) ≡ lists_in words rows → Some (judge (setting_of filled) file) ≡ judge_work words rows
+judged words rows file empty filled named singles same lists =
+    rw (← named, ← lists, ← (singles (lists_of filled)), ← (same (lists_of filled))) refl

@@ -21,6 +21,10 @@ use Rattle.bsp_words.specs.declared.work.TokenSource.{TokenSource}
 use Rattle.bsp_words.specs.declared.work.TokenSource.TheVariants as source
 use Rattle.bsp_words.specs.declared.work.Work.{Work}
 use Rattle.bsp_words.specs.declared.work.Work.TheVariants.{Audit, Body, Check, Explain, Hotcheck, Judge, Plan, PlanOf, Run, Serve}
+use Rattle.bsp_words.specs.declared.work.CommandName.{CommandName}
+use Rattle.bsp_words.specs.declared.work.CommandName.TheVariants as command
+use Rattle.bsp_words.specs.declared.work.SingleName.{SingleName}
+use Rattle.bsp_words.specs.declared.work.SingleName.TheVariants as single
 use Rattle.bsp_words.specs.Order.{in_order, marks_in}
 use Rattle.bsp_words.specs.declared.work.Earlier.{Earlier}
 use Rattle.bsp_words.specs.declared.work.Limits.{Limits}
@@ -318,17 +322,23 @@ pub record AskedLists : Type 0 where
   pub files : List Text
   pub earlier : List Earlier
 
--- a setting of these lists with its day, its agent and its statement
-abbrev pub with_singles : AskedLists → CivilDay × ℕ × Option ℕ → AskedSetting
-with_singles lists singles =
+abbrev pub no_lists : AskedLists
+no_lists = record { plans = []; stock = []; files = []; earlier = [] }
+
+abbrev pub lists_of : Setting → AskedLists
+lists_of s = record { plans = texts_in s.plans.items; stock = s.stock.items; files = texts_in s.files.items; earlier = s.earlier.items }
+
+-- these lists with the day, the agent and the statement of a setting
+abbrev pub with_lists : AskedLists → Setting → AskedSetting
+with_lists lists s =
     record {
       plans = lists.plans;
-      day = singles.0;
-      agent = singles.1;
+      day = s.day;
+      agent = s.agent;
       stock = lists.stock;
       files = lists.files;
       earlier = lists.earlier;
-      statement = singles.2;
+      statement = s.statement;
     }
 
 abbrev pub setting_from : AskedLists → List Row → Option AskedSetting
@@ -423,6 +433,35 @@ work_in words name rows =
     if bytes_eq name (codes "judge") then judge_work words rows
     else if bytes_eq name (codes "plan") then plan_work rows
     else single_in name rows
+
+-- a command by its name
+unfoldable pub command_named : Text → Option CommandName
+command_named name =
+    if bytes_eq name (codes "judge") then Some command.Judge
+    else if bytes_eq name (codes "plan") then Some command.Plan
+    else if bytes_eq name (codes "check") then Some (command.Single single.Check)
+    else if bytes_eq name (codes "hotcheck") then Some (command.Single single.Hotcheck)
+    else if bytes_eq name (codes "audit") then Some (command.Single single.Audit)
+    else if bytes_eq name (codes "run") then Some (command.Single single.Run)
+    else if bytes_eq name (codes "serve") then Some (command.Single single.Serve)
+    else if bytes_eq name (codes "body") then Some (command.Single single.Body)
+    else if bytes_eq name (codes "explain") then Some (command.Single single.Explain)
+    else None
+
+-- the work of a command
+abbrev pub single_work : SingleName → List Row → Option AskedWork
+single_work single.Check rows = check_work rows
+single_work single.Hotcheck rows = hotcheck_work rows
+single_work single.Audit rows = audit_work rows
+single_work single.Run rows = run_work rows
+single_work single.Serve rows = serve_work rows
+single_work single.Body rows = body_work rows
+single_work single.Explain rows = explain_work rows
+
+abbrev pub command_work : List Text → List Row → CommandName → Option AskedWork
+command_work words rows command.Judge = judge_work words rows
+command_work words rows command.Plan = plan_work rows
+command_work words rows (command.Single name) = single_work name rows
 
 abbrev pub work_from : List Text → Option (Text × List Row) → Option AskedWork
 work_from words = option_and_then (λ p. work_in words p.0 p.1)

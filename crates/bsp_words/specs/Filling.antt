@@ -1,5 +1,5 @@
 -- Lists of arguments and of commands, from which a command is filled.
-use Rattle.std.specs.Prelude.{Bool, List, [], ◌∷◌, map, false}
+use Rattle.std.specs.Prelude.{Bool, List, [], ◌∷◌, Option, Some, None, map, false, true}
 use Rattle.clap.specs.Words.{App, Rule, Shape, rule_of, shape_of, with_rule, with_subcommand}
 use Rattle.clap.specs.declared.builder.arg.Arg.{Arg}
 use Rattle.clap.specs.declared.builder.command.Command.{Command}
@@ -26,3 +26,8 @@ with_rules a (r ∷ rs) = with_rules (with_rule a r) rs
 abbrev pub with_subcommands : App → List Shape → App
 with_subcommands a [] = a
 with_subcommands a (s ∷ ss) = with_subcommands (with_subcommand a s) ss
+
+-- what was filled, where nothing that was to be read is out of its form
+abbrev pub if_whole : {A : Type 0} → Bool → A → Option A
+if_whole true filled = Some filled
+if_whole false filled = None

@@ -1,11 +1,11 @@
 //! The order in which the options `--file` and `--closed` come among the words.
 
-ghost use Rattle.std.specs.Prelude.{◌≡◌, ◌++◌, IfOk, List, OnOk, drop, map};
+ghost use Rattle.std.specs.Prelude.{◌≡◌, ◌++◌, List, OnOk, drop, map};
 ghost use Rattle.bsp_words.specs.Order.{as_list, in_order, is_option, mark_of, marks_in};
 
 use crate::work::Earlier;
 use bsp_fields::PeriodCode;
-use std::alloc::{AllocError, Global};
+use std::alloc::AllocError;
 use std::convert::AsStr;
 
 /// Which of the two options a word is.
@@ -59,20 +59,19 @@ fn next_of(closed: &[PeriodCode], taken: usize, mark: Option<Mark>) -> (Option<E
     }
 }
 
-/// The files and the periods in the order of the words.
-pub(crate) fn in_order<S: AsStr>(
-    alloc: Global,
+/// Adds the files and the periods in the order of the words.
+pub(crate) fn push_in_order<S: AsStr>(
+    earlier: &mut Vec<Earlier>,
     words: &[S],
     closed: &[PeriodCode],
-) -> Result<Vec<Earlier>, AllocError>
-    ensures { IfOk result (λ earlier. earlier.items ≡ in_order (marks_in (map S.text words.now)) closed.now) }
+) -> Result<(), AllocError>
+    ensures { OnOk result (earlier.new.items ≡ earlier.old.items ++ in_order (marks_in (map S.text words.now)) closed.now) }
 {
     let mut taken = 0;
-    let mut earlier = Vec::new(alloc);
     for word in words {
         let (next, now_taken) = next_of(closed, taken, mark_of(word.as_str().as_bytes()));
-        push_some(&mut earlier, next)?;
+        push_some(earlier, next)?;
         taken = now_taken;
     }
-    Ok(earlier)
+    Ok(())
 }

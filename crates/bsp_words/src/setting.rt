@@ -1,10 +1,11 @@
 //! What a file is judged over.
 
-ghost use Rattle.std.specs.Prelude.{◌≡◌, IfOk, codes, length, map, option_and_then, option_map};
+ghost use Rattle.std.specs.Prelude.{◌≡◌, ◌++◌, IfOk, IfSome, codes, length, map, option_and_then, option_map};
 ghost use Rattle.clap.specs.Words.{first_of, found_of, rows_of};
-ghost use Rattle.bsp_words.specs.CommandLine.{AskedLists, agent_of, all_read, day_of, earlier_in, first_number, is_range, judge_work, last_number, period_of, range_of, read_if_any, setting_from, texts_in, with_singles, work_of};
+ghost use Rattle.bsp_words.specs.Filling.{if_whole};
+ghost use Rattle.bsp_words.specs.CommandLine.{AskedLists, agent_of, all_read, day_of, earlier_in, first_number, is_range, judge_work, last_number, lists_in, lists_of, no_lists, period_of, range_of, read_if_any, setting_from, texts_in, with_lists, work_of};
 
-use crate::order::in_order;
+use crate::order::push_in_order;
 use crate::plan::day_of;
 use crate::values::{value_of, values_of};
 use crate::work::{Earlier, Misfit, Range, Setting, Work};
@@ -54,56 +55,54 @@ fn last_number(text: &[u8]) -> Option<DocNumber>
     DocNumber::read_unchecked(&text[11..]).ok()
 }
 
-/// The range that a text is.
-fn range_of(text: &str) -> Option<Range>
-    ensures { result ≡ range_of text.now }
-{
-    let text = text.as_bytes();
-    if !is_range(text) {
-        return None;
-    }
-    let Some(first) = first_number(text) else {
-        return None;
-    };
-    let Some(last) = last_number(text) else {
-        return None;
-    };
-    Some(Range { first, last })
+/// A value of the command line that is read from a text.
+trait FromText: Copy + Drop {
+    ghost use Rattle.std.specs.Prelude.{◌≡◌, Option};
+    ghost use Rattle.clap.specs.Words.{Text};
+
+    ghost reading: { Text → Option Self };
+
+    fn from_text(text: &str) -> Option<Self>
+        ensures { result ≡ reading text.now };
 }
 
-/// The ranges that these texts are; none where one is out of its form.
-fn ranges_in(alloc: Global, texts: &[&str]) -> Result<Option<Vec<Range>>, AllocError>
-    ensures { IfOk result (λ ranges. option_map (λ r. r.items) ranges ≡ all_read range_of (texts_in texts.now)) }
-{
-    let mut ranges = Vec::new(alloc);
-    for text in texts {
-        let Some(range) = range_of(text) else {
-            return Ok(None);
+impl FromText for Range {
+    ghost reading = { range_of };
+
+    fn from_text(text: &str) -> Option<Range> {
+        let text = text.as_bytes();
+        if !is_range(text) {
+            return None;
+        }
+        let Some(first) = first_number(text) else {
+            return None;
         };
-        ranges.push(range)?;
-    }
-    Ok(Some(ranges))
-}
-
-/// The period that a text is.
-fn period_of(text: &str) -> Option<PeriodCode>
-    ensures { result ≡ period_of text.now }
-{
-    PeriodCode::read(text.as_bytes()).ok()
-}
-
-/// The periods that these texts are; none where one is out of its form.
-fn periods_in(alloc: Global, texts: &[&str]) -> Result<Option<Vec<PeriodCode>>, AllocError>
-    ensures { IfOk result (λ periods. option_map (λ p. p.items) periods ≡ all_read period_of (texts_in texts.now)) }
-{
-    let mut periods = Vec::new(alloc);
-    for text in texts {
-        let Some(period) = period_of(text) else {
-            return Ok(None);
+        let Some(last) = last_number(text) else {
+            return None;
         };
-        periods.push(period)?;
+        Some(Range { first, last })
     }
-    Ok(Some(periods))
+}
+
+impl FromText for PeriodCode {
+    ghost reading = { period_of };
+
+    fn from_text(text: &str) -> Option<PeriodCode> {
+        PeriodCode::read(text.as_bytes()).ok()
+    }
+}
+
+/// Adds what each text is read as; false where one is out of its form.
+fn push_read<T: FromText>(items: &mut Vec<T>, texts: &[&str]) -> Result<bool, AllocError>
+    ensures { IfOk result (λ whole. if_whole whole items.new.items ≡ option_map (λ more. items.old.items ++ more) (all_read T.reading (texts_in texts.now))) }
+{
+    for text in texts {
+        let Some(item) = T::from_text(text) else {
+            return Ok(false);
+        };
+        items.push(item)?;
+    }
+    Ok(true)
 }
 
 /// The period of the statement, if one is asked for; none where it is out of its form.
@@ -113,15 +112,16 @@ fn statement_given(matches: &ArgMatches<'_>) -> Option<Option<PeriodCode>>
     let Some(text) = value_of(matches, "statement") else {
         return Some(None);
     };
-    let Some(period) = period_of(text) else {
+    let Some(period) = PeriodCode::from_text(text) else {
         return None;
     };
     Some(Some(period))
 }
 
-/// The day, the agent, and the period of the statement if one is asked for; none where one is out of its form.
-fn singles_given(matches: &ArgMatches<'_>) -> Option<(Day, AgentCode, Option<PeriodCode>)>
-    ensures { (lists : AskedLists) → option_map (with_singles lists) result ≡ setting_from lists (rows_of (found_of matches.now)) }
+/// A setting with its day, its agent, and the period of its statement if one is asked for; none where one is out of its form.
+fn empty_setting<'a>(alloc: Global, matches: &ArgMatches<'_>) -> Option<Setting<'a>>
+    ensures singles { (lists : AskedLists) → option_map (with_lists lists) result ≡ setting_from lists (rows_of (found_of matches.now)) }
+    ensures empty { IfSome result (λ s. lists_of s ≡ no_lists) }
 {
     let Some(day) = day_given(matches) else {
         return None;
@@ -132,22 +132,51 @@ fn singles_given(matches: &ArgMatches<'_>) -> Option<(Day, AgentCode, Option<Per
     let Some(statement) = statement_given(matches) else {
         return None;
     };
-    Some((day, agent, statement))
+    Some(Setting {
+        plans: Vec::new(alloc),
+        day,
+        agent,
+        stock: Vec::new(alloc),
+        files: Vec::new(alloc),
+        earlier: Vec::new(alloc),
+        statement,
+    })
 }
 
-/// The files and the closes in the order of the words; none where a period is out of its form.
-fn earlier_given<S: AsStr>(
+/// Adds the files and the closes in the order of the words; false where a period is out of its form.
+fn push_earlier<S: AsStr>(
     alloc: Global,
     words: &[S],
     matches: &ArgMatches<'_>,
-) -> Result<Option<Vec<Earlier>>, AllocError>
-    ensures { IfOk result (λ earlier. option_map (λ e. e.items) earlier ≡ earlier_in (map S.text words.now) (rows_of (found_of matches.now))) }
+    earlier: &mut Vec<Earlier>,
+) -> Result<bool, AllocError>
+    ensures { IfOk result (λ whole. if_whole whole earlier.new.items ≡ option_map (λ more. earlier.old.items ++ more) (earlier_in (map S.text words.now) (rows_of (found_of matches.now)))) }
 {
-    let Some(closed) = periods_in(alloc, values_of(matches, "closed"))? else {
-        return Ok(None);
-    };
-    let earlier = in_order(alloc, words, &closed)?;
-    Ok(Some(earlier))
+    let mut closed = Vec::new(alloc);
+    if !push_read(&mut closed, values_of(matches, "closed"))? {
+        return Ok(false);
+    }
+    push_in_order(earlier, words, &closed)?;
+    Ok(true)
+}
+
+/// Adds the lists of a setting; false where a range or a period is out of its form.
+fn fill_lists<'a, S: AsStr>(
+    alloc: Global,
+    words: &[S],
+    matches: &ArgMatches<'a>,
+    setting: &mut Setting<'a>,
+) -> Result<bool, AllocError>
+    requires { lists_of setting.old ≡ no_lists }
+    ensures singles { (lists : AskedLists) → with_lists lists setting.new ≡ with_lists lists setting.old }
+    ensures lists { IfOk result (λ whole. if_whole whole (lists_of setting.new) ≡ lists_in (map S.text words.now) (rows_of (found_of matches.now))) }
+{
+    setting.plans.extend_from_slice(values_of(matches, "plan"))?;
+    setting.files.extend_from_slice(values_of(matches, "file"))?;
+    if !push_read(&mut setting.stock, values_of(matches, "stock"))? {
+        return Ok(false);
+    }
+    push_earlier(alloc, words, matches, &mut setting.earlier)
 }
 
 /// The work of `judge`.
@@ -161,26 +190,12 @@ pub(crate) fn judge_given<'a, S: AsStr>(
     let Some(file) = value_of(matches, "FILE") else {
         return Ok(None);
     };
-    let Some((day, agent, statement)) = singles_given(matches) else {
+    let Some(mut setting) = empty_setting(alloc, matches) else {
         return Ok(None);
     };
-    let Some(stock) = ranges_in(alloc, values_of(matches, "stock"))? else {
+    if !fill_lists(alloc, words, matches, &mut setting)? {
         return Ok(None);
-    };
-    let Some(earlier) = earlier_given(alloc, words, matches)? else {
-        return Ok(None);
-    };
-    let plans = Vec::from_slice(alloc, values_of(matches, "plan"))?;
-    let files = Vec::from_slice(alloc, values_of(matches, "file"))?;
-    let setting = Setting {
-        plans,
-        day,
-        agent,
-        stock,
-        files,
-        earlier,
-        statement,
-    };
+    }
     Ok(Some(Work::Judge { setting, file }))
 }
 
@@ -188,7 +203,7 @@ pub(crate) fn judge_given<'a, S: AsStr>(
 fn has_other_range(matches: &ArgMatches<'_>) -> bool {
     values_of(matches, "stock")
         .iter()
-        .any(|text| range_of(text).is_none())
+        .any(|text| Range::from_text(text).is_none())
 }
 
 /// Which value of `judge` is out of its form.

@@ -1,11 +1,11 @@
 //! From the words of a command line to the work that they ask for.
 //!
 //! A further command is a row of a table of `commands.rt`, a variant of [`Work`], and a function that makes its work of the values
-//! found. It also has a row in `work_in` or `single_in`.
+//! found. Its name is also a row in `command_named`.
 
 ghost use Rattle.std.specs.Prelude.{◌≡◌, IfOk, IfErr, [], map, option_map};
 ghost use Rattle.clap.specs.Words.{HasKind, fault_of, found_of, rows_of, subcommand_of, subcommand_rows_of};
-ghost use Rattle.bsp_words.specs.CommandLine.{AnswersWords, asked_book, asked_token, audit_work, body_work, book_of, check_work, explain_work, hotcheck_work, limits_in, office, run_work, serve_work, single_in, token_of, work_from, work_of};
+ghost use Rattle.bsp_words.specs.CommandLine.{AnswersWords, asked_book, asked_token, audit_work, body_work, book_of, check_work, command_named, explain_work, hotcheck_work, limits_in, office, run_work, serve_work, single_work, token_of, work_from, work_of};
 
 use crate::command_line::office_command;
 use crate::plan::{plan_given, plan_misfit};
@@ -325,25 +325,61 @@ fn serve_given<'a>(matches: &ArgMatches<'a>) -> Option<Work<'a>>
     })
 }
 
-/// The work of a command whose values make no list.
-#[tactic(auto, unfolding(crate::specs::CommandLine::single_in))]
-fn single_given<'a>(name: &str, matches: &ArgMatches<'a>) -> Option<Work<'a>>
-    ensures { option_map work_of result ≡ single_in name.now (rows_of (found_of matches.now)) }
+/// A command whose values make no list.
+#[derive(Clone, Copy)]
+enum SingleName {
+    Check,
+    Hotcheck,
+    Audit,
+    Run,
+    Serve,
+    Body,
+    Explain,
+}
+
+/// A command of the program.
+#[derive(Clone, Copy)]
+enum CommandName {
+    Judge,
+    Plan,
+    Single(SingleName),
+}
+
+/// The command of this name.
+#[tactic(auto, unfolding(crate::specs::CommandLine::command_named))]
+fn command_named(name: &str) -> Option<CommandName>
+    ensures { result ≡ command_named name.now }
 {
     match name {
-        "check" => check_given(matches),
-        "hotcheck" => hotcheck_given(matches),
-        "audit" => audit_given(matches),
-        "run" => run_given(matches),
-        "serve" => serve_given(matches),
-        "body" => body_given(matches),
-        "explain" => explain_given(matches),
+        "judge" => Some(CommandName::Judge),
+        "plan" => Some(CommandName::Plan),
+        "check" => Some(CommandName::Single(SingleName::Check)),
+        "hotcheck" => Some(CommandName::Single(SingleName::Hotcheck)),
+        "audit" => Some(CommandName::Single(SingleName::Audit)),
+        "run" => Some(CommandName::Single(SingleName::Run)),
+        "serve" => Some(CommandName::Single(SingleName::Serve)),
+        "body" => Some(CommandName::Single(SingleName::Body)),
+        "explain" => Some(CommandName::Single(SingleName::Explain)),
         _ => None,
     }
 }
 
+/// The work of a command whose values make no list.
+fn single_given<'a>(name: SingleName, matches: &ArgMatches<'a>) -> Option<Work<'a>>
+    ensures { option_map work_of result ≡ single_work name (rows_of (found_of matches.now)) }
+{
+    match name {
+        SingleName::Check => check_given(matches),
+        SingleName::Hotcheck => hotcheck_given(matches),
+        SingleName::Audit => audit_given(matches),
+        SingleName::Run => run_given(matches),
+        SingleName::Serve => serve_given(matches),
+        SingleName::Body => body_given(matches),
+        SingleName::Explain => explain_given(matches),
+    }
+}
+
 /// The work of the command that `clap` finds.
-#[tactic(auto, unfolding(crate::specs::CommandLine::work_in))]
 fn work_found<'a, S: AsStr>(
     alloc: Global,
     words: &[S],
@@ -351,10 +387,13 @@ fn work_found<'a, S: AsStr>(
 ) -> Result<Option<Work<'a>>, AllocError>
     ensures { IfOk result (λ work. option_map work_of work ≡ work_from (map S.text words.now) (subcommand_rows_of matches.now)) }
 {
-    match matches.subcommand() {
-        Some(("judge", inner)) => judge_given(alloc, words, inner),
-        Some(("plan", inner)) => plan_given(alloc, inner),
-        Some((name, inner)) => Ok(single_given(name, inner)),
+    let Some((name, inner)) = matches.subcommand() else {
+        return Ok(None);
+    };
+    match command_named(name) {
+        Some(CommandName::Judge) => judge_given(alloc, words, inner),
+        Some(CommandName::Plan) => plan_given(alloc, inner),
+        Some(CommandName::Single(single)) => Ok(single_given(single, inner)),
         None => Ok(None),
     }
 }
@@ -371,10 +410,13 @@ fn token_misfit(matches: &ArgMatches<'_>) -> Misfit {
 
 /// Which value is out of its form.
 fn misfit_found(matches: &ArgMatches<'_>) -> Misfit {
-    match matches.subcommand() {
-        Some(("judge", inner)) => setting_misfit(inner),
-        Some(("plan", inner)) => plan_misfit(inner),
-        Some(("run" | "serve", inner)) => token_misfit(inner),
+    let Some((name, inner)) = matches.subcommand() else {
+        return Misfit::Minus;
+    };
+    match command_named(name) {
+        Some(CommandName::Judge) => setting_misfit(inner),
+        Some(CommandName::Plan) => plan_misfit(inner),
+        Some(CommandName::Single(SingleName::Run | SingleName::Serve)) => token_misfit(inner),
         _ => Misfit::Minus,
     }
 }
@@ -389,6 +431,23 @@ fn matches_found<'a, S: AsStr>(alloc: Global, words: &'a [S]) -> Result<ArgMatch
     command.try_get_matches_from(words)
 }
 
+/// The answer to words that `clap` takes, by what it finds in them.
+fn answer<'a, S: AsStr>(
+    alloc: Global,
+    words: &[S],
+    matches: &ArgMatches<'a>,
+) -> Result<Work<'a>, WordsFault>
+    requires taken { fault_of office (map S.text words.now) ≡ [] }
+    requires found { subcommand_rows_of matches.now ≡ subcommand_of office (map S.text words.now) }
+    ensures { AnswersWords (map S.text words.now) result }
+{
+    match work_found(alloc, words, matches) {
+        Ok(Some(work)) => Ok(work),
+        Ok(None) => Err(WordsFault::OutOfForm(misfit_found(matches))),
+        Err(_) => Err(WordsFault::NoRoom),
+    }
+}
+
 /// The work that a command line asks for, its first word being the program's name: that which
 /// `clap`'s matches of the words have.
 ///
@@ -401,11 +460,7 @@ pub fn words<'a, S: AsStr>(alloc: Global, words: &'a [S]) -> Result<Work<'a>, Wo
     ensures { AnswersWords (map S.text words.entry.now) result }
 {
     match matches_found(alloc, words) {
-        Ok(matches) => match work_found(alloc, words, &matches) {
-            Ok(Some(work)) => Ok(work),
-            Ok(None) => Err(WordsFault::OutOfForm(misfit_found(&matches))),
-            Err(_) => Err(WordsFault::NoRoom),
-        },
+        Ok(matches) => answer(alloc, words, &matches),
         Err(error) => Err(WordsFault::Refused(error)),
     }
 }

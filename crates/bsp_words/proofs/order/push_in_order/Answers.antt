@@ -1,7 +1,7 @@
 use Rattle.std.proofs.Common.{◌∙◌, ap}
 use Rattle.bsp_words.specs.Order.{mark_of}
 use Rattle.bsp_words.proofs.OrderLemmas.{step_more}
-use Rattle.bsp_words.proofs.order.in_order.Goals as goal
+use Rattle.bsp_words.proofs.order.push_in_order.Goals as goal
 
 pub loop-word-preserved : goal.loop-word-preserved
 loop-word-preserved g c =

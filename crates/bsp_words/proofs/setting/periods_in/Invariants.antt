@@ -1,6 +1,0 @@
-use Rattle.std.proofs.Common.{◌≡◌, ◌++◌, drop, option_map}
-use Rattle.bsp_words.specs.CommandLine.{all_read, period_of, texts_in}
-use Rattle.bsp_words.proofs.setting.periods_in.Given as goal
-
-abbrev pub invariant-loop-text : goal.invariant-loop-text
-invariant-loop-text l = all_read period_of (texts_in l.texts) ≡ option_map (λ xs. l.periods.items ++ xs) (all_read period_of (texts_in (drop l.text-index l.texts)))
