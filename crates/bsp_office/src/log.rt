@@ -5,6 +5,7 @@ use crate::lines::Lines;
 use bsp_body_faults::cause_text;
 use bsp_desk::{Asking, Book, Desk};
 use bsp_http::{Journal, Message, Reply, ServeFault, Status};
+use sqlite::Error;
 use std::alloc::{AllocError, Global};
 use std::cell::Cell;
 use std::fmt;
@@ -87,14 +88,6 @@ fn push_cause<C: Display>(line: &mut String, cause: &C) -> Result<(), AllocError
     Ok(())
 }
 
-/// Appends an error, if there is one.
-fn push_error<E: Display + Drop>(line: &mut String, error: Option<E>) -> Result<(), AllocError> {
-    match error {
-        Some(error) => push_cause(line, &error),
-        None => Ok(()),
-    }
-}
-
 /// A time, as `30 seconds`.
 #[derive(Clone, Copy)]
 struct Seconds(u32);
@@ -169,11 +162,12 @@ impl<B: Book + Failing> Journal<B> for Log<'_> {
         if !self.whole && !refused {
             return;
         }
-        let cause = match desk.book().store_error() {
-            Some(error) if refused => Some(error),
-            _ => None,
+        let error = if refused {
+            desk.book().store_error()
+        } else {
+            None
         };
-        let _ = self.say_reply(connection, message, reply, cause);
+        let _ = self.say_reply(connection, message, reply, error.as_ref());
     }
 }
 
@@ -207,20 +201,28 @@ impl Log<'_> {
         Ok(())
     }
 
-    /// Writes the line of a reply, with the cause of an error, or why a body is malformed.
-    fn say_reply<E: Display + Drop>(
+    /// Appends why a body is malformed, where that was noted; else the error of the store, if there is one.
+    fn push_why(&self, line: &mut String, error: Option<&Error>) -> Result<(), AllocError> {
+        if let Some(cause) = self.cause.take() {
+            return push_cause(line, &cause);
+        }
+        match error {
+            Some(error) => push_cause(line, error),
+            None => Ok(()),
+        }
+    }
+
+    /// Writes the line of a reply, with the error of the store, or why a body is malformed.
+    fn say_reply(
         &self,
         connection: u64,
         message: Option<&Message<'_>>,
         reply: &Reply,
-        error: Option<E>,
+        error: Option<&Error>,
     ) -> Result<(), AllocError> {
         let mut line = String::new(self.rt.alloc());
         self.push_line(&mut line, connection, message, reply)?;
-        match self.cause.take() {
-            Some(cause) => push_cause(&mut line, &cause)?,
-            None => push_error(&mut line, error)?,
-        }
+        self.push_why(&mut line, error)?;
         self.lines.say(&line);
         Ok(())
     }

@@ -8,6 +8,7 @@ use crate::book_file::{make_private, say_unopened};
 use crate::kept::{Failing, say_opened};
 use crate::listening::{Port, serve_on};
 use crate::log::Log;
+use crate::remarks::say;
 use crate::token_file::{is_directory, is_private, read_token};
 use bsp_book::ListBook;
 use bsp_check::{DONE, FAILED, REFUSED, WRONG_WORDS};
@@ -51,22 +52,24 @@ fn token_in(rt: &HostRuntime, file: &str) -> Result<Token, u8> {
     match read_token(rt, file) {
         Ok(Some(token)) => {
             if !is_private(rt, file) {
-                let _ = eprintln!(rt; "bsp_office: {file}: others can read it");
+                say(rt, file, &"others can read it");
             }
             Ok(token)
         }
         Ok(None) => {
-            let _ = eprintln!(rt;
-                "bsp_office: {file}: its first line is not 16 to 64 letters and digits"
+            say(
+                rt,
+                file,
+                &"its first line is not 16 to 64 letters and digits",
             );
             Err(WRONG_WORDS)
         }
         Err(_) if is_directory(rt, file) => {
-            let _ = eprintln!(rt; "bsp_office: {file}: it is a directory");
+            say(rt, file, &"it is a directory");
             Err(FAILED)
         }
         Err(error) => {
-            let _ = eprintln!(rt; "bsp_office: {file}: {error}");
+            say(rt, file, &error);
             Err(FAILED)
         }
     }
