@@ -56,45 +56,30 @@ fn say_term(words: &mut Words, old: Terms, new: Terms) {
     }
 }
 
-/// The first of some rates with the key of this one that differs from it.
-fn other_rate<'k>(known: &'k [Rate], rate: &Rate) -> Option<&'k Rate> {
-    for it in known {
-        if it.airline == rate.airline && it.from == rate.from && it.hundredths != rate.hundredths {
-            return Some(it);
-        }
-    }
-    None
+/// An entry of a list of a plan, of which another one with its key may differ.
+trait Keyed {
+    /// Whether another one has the key of this one and differs from it.
+    fn differs(&self, other: &Self) -> bool;
+
+    /// Says in what another one with its key differs.
+    fn say_beside(&self, words: &mut Words, sides: &Sides, other: &Self);
 }
 
-/// Says that two rates differ.
-fn say_rate(words: &mut Words, sides: &Sides, rate: &Rate, other: &Rate) {
-    let (first, second) = (u64::from(rate.hundredths), u64::from(other.hundredths));
-    let (airline, from) = (Shown::Airline(rate.airline), Shown::Day(rate.from));
-    words.say(
-        sides.rate,
-        &[airline, from, Shown::Number(first), Shown::Number(second)],
-    );
-}
-
-/// Says which rate differs from one of these with its key, and answers whether one does.
-fn say_rates(words: &mut Words, sides: &Sides, known: &[Rate], rates: &[Rate]) -> bool {
-    for rate in rates {
-        if let Some(other) = other_rate(known, rate) {
-            say_rate(words, sides, rate, other);
-            return true;
-        }
+impl Keyed for Rate {
+    fn differs(&self, other: &Rate) -> bool {
+        other.airline == self.airline
+            && other.from == self.from
+            && other.hundredths != self.hundredths
     }
-    false
-}
 
-/// The first of some periods with the code of this one that differs from it.
-fn other_period<'k>(known: &'k [Period], period: &Period) -> Option<&'k Period> {
-    for it in known {
-        if it.code == period.code && it != period {
-            return Some(it);
-        }
+    fn say_beside(&self, words: &mut Words, sides: &Sides, other: &Rate) {
+        let (first, second) = (u64::from(self.hundredths), u64::from(other.hundredths));
+        let (airline, from) = (Shown::Airline(self.airline), Shown::Day(self.from));
+        words.say(
+            sides.rate,
+            &[airline, from, Shown::Number(first), Shown::Number(second)],
+        );
     }
-    None
 }
 
 /// Says a day of a period that differs, and answers what comes before the next.
@@ -114,57 +99,51 @@ fn say_day(
     ", "
 }
 
-/// Says in which days two periods differ.
-fn say_period(words: &mut Words, sides: &Sides, period: &Period, other: &Period) {
-    words.say("period {}", &[Shown::Period(period.code)]);
-    let before = say_day(words, sides, ": ", b"first", (period.first, other.first));
-    let before = say_day(words, sides, before, b"last", (period.last, other.last));
-    let remittances = (period.remittance, other.remittance);
-    let _next = say_day(words, sides, before, b"remit", remittances);
-    words.add(sides.period_end.as_bytes());
-}
-
-/// Says which period differs from one of these with its code, and answers whether one does.
-fn say_periods(words: &mut Words, sides: &Sides, known: &[Period], periods: &[Period]) -> bool {
-    for period in periods {
-        if let Some(other) = other_period(known, period) {
-            say_period(words, sides, period, other);
-            return true;
-        }
+impl Keyed for Period {
+    fn differs(&self, other: &Period) -> bool {
+        other.code == self.code && other != self
     }
-    false
+
+    fn say_beside(&self, words: &mut Words, sides: &Sides, other: &Period) {
+        words.say("period {}", &[Shown::Period(self.code)]);
+        let before = say_day(words, sides, ": ", b"first", (self.first, other.first));
+        let before = say_day(words, sides, before, b"last", (self.last, other.last));
+        let remittances = (self.remittance, other.remittance);
+        let _next = say_day(words, sides, before, b"remit", remittances);
+        words.add(sides.period_end.as_bytes());
+    }
 }
 
-/// The first of some taxes of the day of this one that differs from it.
-fn other_tax<'k>(known: &'k [CommissionTax], tax: &CommissionTax) -> Option<&'k CommissionTax> {
+impl Keyed for CommissionTax {
+    fn differs(&self, other: &CommissionTax) -> bool {
+        other.from == self.from && other.hundredths != self.hundredths
+    }
+
+    fn say_beside(&self, words: &mut Words, sides: &Sides, other: &CommissionTax) {
+        let (first, second) = (u64::from(self.hundredths), u64::from(other.hundredths));
+        let from = Shown::Day(self.from);
+        words.say(
+            sides.tax,
+            &[from, Shown::Number(first), Shown::Number(second)],
+        );
+    }
+}
+
+/// The first of some entries that differs from this one and has its key.
+fn other_than<'k, E: Keyed>(known: &'k [E], entry: &E) -> Option<&'k E> {
     for it in known {
-        if it.from == tax.from && it.hundredths != tax.hundredths {
+        if entry.differs(it) {
             return Some(it);
         }
     }
     None
 }
 
-/// Says that two taxes differ.
-fn say_tax(words: &mut Words, sides: &Sides, tax: &CommissionTax, other: &CommissionTax) {
-    let (first, second) = (u64::from(tax.hundredths), u64::from(other.hundredths));
-    let from = Shown::Day(tax.from);
-    words.say(
-        sides.tax,
-        &[from, Shown::Number(first), Shown::Number(second)],
-    );
-}
-
-/// Says which tax differs from one of these with its day, and answers whether one does.
-fn say_taxes(
-    words: &mut Words,
-    sides: &Sides,
-    known: &[CommissionTax],
-    taxes: &[CommissionTax],
-) -> bool {
-    for tax in taxes {
-        if let Some(other) = other_tax(known, tax) {
-            say_tax(words, sides, tax, other);
+/// Says which entry differs from one of these with its key, and answers whether one does.
+fn say_first<E: Keyed>(words: &mut Words, sides: &Sides, known: &[E], entries: &[E]) -> bool {
+    for entry in entries {
+        if let Some(other) = other_than(known, entry) {
+            entry.say_beside(words, sides, other);
             return true;
         }
     }
@@ -174,9 +153,9 @@ fn say_taxes(
 /// Says which entry of a text differs from a published one, and answers whether one does.
 fn differs_from_plan(words: &mut Words, plan: &Plan, read: &PlanText) -> bool {
     let sides = &PUBLISHED;
-    say_rates(words, sides, plan.rates(), &read.rates)
-        || say_periods(words, sides, plan.periods(), &read.periods)
-        || say_taxes(
+    say_first(words, sides, plan.rates(), &read.rates)
+        || say_first(words, sides, plan.periods(), &read.periods)
+        || say_first(
             words,
             sides,
             plan.commission_taxes(),
@@ -187,9 +166,9 @@ fn differs_from_plan(words: &mut Words, plan: &Plan, read: &PlanText) -> bool {
 /// Says which two entries of a text differ, and answers whether two do.
 fn differs_in_itself(words: &mut Words, read: &PlanText) -> bool {
     let sides = &OWN;
-    say_rates(words, sides, &read.rates, &read.rates)
-        || say_periods(words, sides, &read.periods, &read.periods)
-        || say_taxes(words, sides, &read.commission_taxes, &read.commission_taxes)
+    say_first(words, sides, &read.rates, &read.rates)
+        || say_first(words, sides, &read.periods, &read.periods)
+        || say_first(words, sides, &read.commission_taxes, &read.commission_taxes)
 }
 
 /// Says which entry differs from a published one, or from another of the text.
