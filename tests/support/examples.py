@@ -3,13 +3,14 @@
 examples/README.md says how a file is written, and what is compared.
 
 Each example is run over a book in memory; over a book in tables in memory; over a book in a file; and over a book in a file
-with the office killed, and started again, between each two requests. Each difference is printed with its file and line, and with the ways that have
-it. A body of which a file has the end alone must be the same in all ways. The status is 1 where something differs, or where
-a file is not in its form.
+with the office killed, and started again, between each two requests. Requests that differ in a number alone are sent many at
+once. Each difference is printed with its file and line, and with the ways that have it. A body of which a file has the end
+alone must be the same in all ways. The status is 1 where something differs, or where a file is not in its form.
 
 usage: tests/support/examples.py PROGRAM [NAME..]   (NAME as in 05-sale; with none all are run)
 """
 import concurrent.futures
+import contextlib
 import dataclasses
 import hashlib
 import http.client
@@ -22,11 +23,14 @@ import tempfile
 import time
 
 sys.path.insert(0, str(pathlib.Path(__file__).resolve().parents[1]))
-from support import program as program_under_test, served
+from support import program as program_under_test, served, wire
 from support.tree import EXAMPLES as FOLDER, TOP
 
 # a way: the word of --db, and whether the office is killed between each two requests
 WAYS = {"memory": ("", False), "tables": (":memory:", False), "file": ("{}.db", False), "restarts": ("{}.db", True)}
+
+# so many requests that differ in a number alone are sent at once
+AT_ONCE = 100
 
 AFTER = re.compile(r"# after:((?: [\w./-]+\.hurl)+)")
 EACH = re.compile(r"# each number: (\d+) to (\d+)")
@@ -247,20 +251,34 @@ def ask(it, entry):
     return reply.status, reply.headers, reply.read()
 
 
+def ask_at_once(it, entries):
+    """The replies to the requests of entries, which are sent one behind the other on a connection of their own."""
+    with contextlib.closing(wire.connected(it.port, it.seconds)) as peer, peer.makefile("rb") as came:
+        peer.sendall(b"".join(wire.message(entry.method, entry.path, entry.token, entry.body) for entry in entries))
+        return [wire.next_reply(came) for _ in entries]
+
+
+def parts(entries):
+    """The entries one by one, but those that repeat one with another number many at once."""
+    for is_repeated, found in itertools.groupby(entries, lambda entry: entry.is_repeated):
+        while part := list(itertools.islice(found, AT_ONCE if is_repeated else 1)):
+            yield part
+
+
 def replies(words, entries, is_killed):
     """The entries with their replies. Where there is none, what failed is the last reply."""
     it = None
-    for entry in entries:
+    for part in parts(entries):
         try:
-            if it and is_killed and not entry.is_repeated:
+            if it and is_killed and not part[0].is_repeated:
                 it.kill()
                 it = None
             it = it or served.Office(*words)
-            reply = ask(it, entry)
+            found = ask_at_once(it, part) if part[0].is_repeated else [ask(it, part[0])]
         except (RuntimeError, OSError, http.client.HTTPException) as fault:
-            reply = f"{type(fault).__name__}: {fault}"
-        yield entry, reply
-        if isinstance(reply, str):
+            found = [f"{type(fault).__name__}: {fault}"]
+        yield from zip(part, found)
+        if isinstance(found[-1], str):
             break
     if it:
         it.kill()

@@ -36,6 +36,18 @@ def replies(out):
     return found
 
 
+def next_reply(came):
+    """The next reply in a file of what comes on a connection: its status, its fields and its body."""
+    status = came.readline().split()
+    if len(status) < 2:
+        raise ConnectionError(f"no reply, but {status}")
+    fields = {}
+    while line := came.readline().decode().rstrip("\r\n"):
+        name, _, value = line.partition(": ")
+        fields[name] = value
+    return int(status[1]), fields, came.read(int(fields["Content-Length"]))
+
+
 def connected(port, seconds=10, room=None):
     """A connection to loopback, whose receive buffer has so much room."""
     peer = socket.socket()
