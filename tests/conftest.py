@@ -1,6 +1,8 @@
 """What all tests have: the program under test, a folder of their own, offices that serve, and comparisons that go on."""
 import contextlib
+import os
 import pathlib
+import shutil
 import tempfile
 
 import hypothesis
@@ -14,11 +16,21 @@ from support.served import Office
 MARKETS = 40
 # with so many examples Hypothesis begins, which are of few draws
 SMALL = 11
+# the file system in memory, if there is one, and the bytes that have to be free there
+MEMORY = pathlib.Path("/dev/shm")
+ROOM = 500_000_000
+
+
+def has_room_in_memory():
+    """Whether temporary files are made in memory: a disk takes most of the time of a commit. Shims are run from there."""
+    return MEMORY.is_dir() and shutil.disk_usage(MEMORY).free > ROOM and not os.statvfs(MEMORY).f_flag & os.ST_NOEXEC
 
 
 def pytest_configure(config):
     config.addinivalue_line("markers", "alone: a test that counts seconds, and has no other beside it")
     program_under_test.choose(config.getoption("program") or program_under_test.BUILT)
+    if has_room_in_memory():
+        tempfile.tempdir = str(MEMORY)
     # with --hypothesis-seed N other markets are drawn
     is_seeded = config.getoption("hypothesis_seed", None) is not None
     hypothesis.settings.register_profile(
@@ -81,7 +93,7 @@ def folder(monkeypatch):
 
 @contextlib.contextmanager
 def new_folder():
-    """A new folder, in memory where the system has a file system there with room: a disk takes most of the time of a commit."""
+    """A new folder of temporary files."""
     with tempfile.TemporaryDirectory(prefix="bsp_office-") as name:
         yield name
 

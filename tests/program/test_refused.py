@@ -100,22 +100,68 @@ class Run(typing.NamedTuple):
     status: int
     out: bytes
     err: bytes
-    is_refused: bool
+    is_refused: bool = True
+
+
+def preloaded(**names):
+    """The variables of the shim, beside those of this process."""
+    return {**os.environ, "LD_PRELOAD": os.path.abspath("refuse.so"), **names}
 
 
 def run(words, text, number):
     """Runs the words with the allocation of this number refused; with 0 none is."""
     mark = pathlib.Path(f"mark-{number}")
-    names = {"LD_PRELOAD": os.path.abspath("refuse.so"), "REFUSED_ALLOCATION": str(number), "REFUSAL_MARK": str(mark)}
-    ended = subprocess.run(words, input=text, capture_output=True, env={**os.environ, **names}, timeout=60)
+    names = preloaded(REFUSED_ALLOCATION=str(number), REFUSAL_MARK=str(mark))
+    ended = subprocess.run(words, input=text, capture_output=True, env=names, timeout=60)
     is_refused = mark.exists()
     mark.unlink(missing_ok=True)
     return Run(ended.returncode, ended.stdout, ended.stderr, is_refused)
 
 
-def each_refused(what, words_of, text, judge, numbers=None):
-    """Judges a run for each allocation, or for these, up to the first that refuses none."""
-    ample, numbers, count = run(words_of(0), text, 0), numbers or itertools.count(1), 0
+def expect_right(what, ample, found, number, is_right):
+    """A judge says that a run with the allocation of this number refused is right."""
+    expect(f"{what}, allocation {number} refused: {found[:3]}, and {ample[:3]} with ample memory", True, is_right)
+
+
+def expect_some(what, count):
+    """Some allocation was refused."""
+    expect(f"{what}: some allocation was refused", True, count > 0)
+    print(f"{what}: {count} allocations refused in turn")
+
+
+def with_children(words, text):
+    """Runs the words, with a child at each allocation in which it is refused: the run itself, and that of each child."""
+    pathlib.Path("given").write_bytes(text)
+    with open("given", "rb") as given, open("out", "wb") as out, open("err", "wb") as err:
+        names = preloaded(REFUSALS=os.path.abspath("refused"))
+        status = subprocess.run(words, stdin=given, stdout=out, stderr=err, env=names, timeout=600).returncode
+    ample = Run(status, *(pathlib.Path(it).read_bytes() for it in ("out", "err")), False)
+    return ample, children(ample)
+
+
+def children(ample):
+    """How each child ended: it put out what the run itself did before it, and then its own."""
+    out, err = (pathlib.Path(f"refused.{it}").read_bytes() for it in ("out", "err"))
+    out_at = err_at = 0
+    for line in pathlib.Path("refused.ended").read_text().splitlines():
+        ended, out_before, err_before, out_more, err_more = map(int, line.split())
+        own_out, own_err = out[out_at : out_at + out_more], err[err_at : err_at + err_more]
+        out_at, err_at = out_at + out_more, err_at + err_more
+        yield Run(os.waitstatus_to_exitcode(ended), ample.out[:out_before] + own_out, ample.err[:err_before] + own_err)
+
+
+def each_child_refused(what, words, text, judge):
+    """Judges a run for each allocation, over nothing but the text and files that are not changed."""
+    count = 0
+    ample, found = with_children(words, text)
+    for count, it in enumerate(found, 1):
+        expect_right(what, ample, it, count, judge(ample, it, count))
+    expect_some(what, count)
+
+
+def each_refused(what, words_of, text, judge, numbers):
+    """Judges a run for each of these allocations, up to the first that refuses none."""
+    ample, count = run(words_of(0), text, 0), 0
 
     def judged(number):
         found = run(words_of(number), text, number)
@@ -126,11 +172,10 @@ def each_refused(what, words_of, text, judge, numbers=None):
             batch = list(itertools.islice(numbers, 64))
             for number, (found, is_right) in zip(batch, pool.map(judged, batch)):
                 if not found.is_refused:
-                    expect(f"{what}: some allocation was refused", True, count > 0)
-                    print(f"{what}: {count} allocations refused in turn")
+                    expect_some(what, count)
                     return
                 count += 1
-                expect(f"{what}, allocation {number} refused: {found[:3]}, and {ample[:3]} with ample memory", True, is_right)
+                expect_right(what, ample, found, number, is_right)
 
 
 def last_refused(words, text):
@@ -164,7 +209,7 @@ def is_page(ample, found, _number):
 def test_a_page_of_calls():
     records = program.EXAMPLES
     page = (records.parents[1] / "data" / "calls").read_bytes()
-    each_refused(records.name, lambda _: [records], page, is_page)
+    each_child_refused(records.name, [records], page, is_page)
 
 
 # ---- words
@@ -204,7 +249,7 @@ def test_words(line):
     for name, text in files().items():
         pathlib.Path(name).write_bytes(text)
     judge = is_same_or_quiet if "--quiet" in line else is_same_or_failed
-    each_refused(f"bsp_office {line}", lambda _: [program.path(), *shlex.split(line)], b"", judge)
+    each_child_refused(f"bsp_office {line}", [program.path(), *shlex.split(line)], b"", judge)
 
 
 # ---- conversations
@@ -251,7 +296,7 @@ def twice(name):
 @pytest.mark.xdist_group("conversations")
 @pytest.mark.parametrize("name", CONVERSATIONS)
 def test_a_conversation(name):
-    each_refused(name, lambda _: [program.path(), "run", "--token", OFFICE], twice(name), is_answered)
+    each_child_refused(name, [program.path(), "run", "--token", OFFICE], twice(name), is_answered)
     tried.append(name)
 
 

@@ -20,7 +20,6 @@ import os
 import pathlib
 import sqlite3
 import subprocess
-import tempfile
 import threading
 import time
 
@@ -338,11 +337,8 @@ def earlier_book(version):
 
 @pytest.fixture
 def books():
-    """A folder for books, in memory where the system has a file system there, since a disk takes most of the time of a commit."""
-    memory = "/dev/shm" if os.path.isdir("/dev/shm") else None
-    with tempfile.TemporaryDirectory(prefix="sizes-", dir=memory) as name:
-        os.symlink(name, "books")
-        yield
+    """A folder for books."""
+    os.mkdir("books")
 
 
 def test_a_month_of_many_items(books, request):

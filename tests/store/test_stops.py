@@ -30,10 +30,8 @@ import itertools
 import os
 import random
 import re
-import shutil
 import sqlite3
 import subprocess
-import tempfile
 import threading
 
 import books
@@ -488,18 +486,14 @@ TRIALS = {
 }
 
 
-@pytest.fixture
-def in_memory(monkeypatch):
-    """The folder of files in memory, where a sync costs nothing, if it has room; else the one of temporary files. The shim is in it."""
-    has_room = os.path.isdir("/dev/shm") and shutil.disk_usage("/dev/shm").free > 500_000_000
-    with tempfile.TemporaryDirectory(dir="/dev/shm" if has_room else None) as folder:
-        monkeypatch.chdir(folder)
-        shims.built("calls")
-        yield
+@pytest.fixture(autouse=True)
+def shim():
+    """The shim that notes the calls of a file, and stops before one of them."""
+    shims.built("calls")
 
 
 @pytest.mark.parametrize("name", TRIALS)
-def test_nothing_is_lost_that_was_acknowledged(name, in_memory):
+def test_nothing_is_lost_that_was_acknowledged(name):
     with Pool() as pool:
         trial = TRIALS[name]().prepare()
         count = stops(trial, pool) + failures(trial, pool)
