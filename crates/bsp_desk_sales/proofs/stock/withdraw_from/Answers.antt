@@ -1,3 +1,4 @@
+use Rattle.std.proofs.Common.{rules}
 use Rattle.std.proofs.Common.{true, false, Some, refl, sym, ◌∙◌}
 use Rattle.std.proofs.lemmas.Result.{err_from_is_err_and}
 use Rattle.bsp_rows.specs.Rows.{Rows}
@@ -62,3 +63,6 @@ pub returns-in_err-is_range_used-clause-fault : goal.returns-in_err-is_range_use
 returns-in_err-is_range_used-clause-fault g c =
     let p = err_from_is_err_and c.from_residual-in_err-is_range_used.result c.from_residual-in_err-is_range_used.ensures.1 in
     rw (p.1, p.2) (over_sound (after_look_up c.in_ok-is_registered.ensures (after_look_up c.in_ok-has_range.ensures (look_up_faulted _ c.in_err-is_range_used.ensures))))
+
+pub returns-clause-served : goal.returns-clause-served
+returns-clause-served c = search rules
