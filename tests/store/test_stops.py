@@ -488,7 +488,7 @@ TRIALS = {
 
 @pytest.fixture(autouse=True)
 def shim():
-    """The shim that notes the calls of a file, and stops before one of them."""
+    """The shim that notes the calls of a file, or has them fail."""
     shims.built("calls")
 
 
