@@ -154,6 +154,7 @@ def each_child_refused(what, words, text, judge):
     """Judges a run for each allocation, over nothing but the text and files that are not changed."""
     count = 0
     ample, found = with_children(words, text)
+    expect(f"{what}: the run that has the children", run(words, text, 0), ample)
     for count, it in enumerate(found, 1):
         expect_right(what, ample, it, count, judge(ample, it, count))
     expect_some(what, count)

@@ -16,7 +16,8 @@
 #include <sys/wait.h>
 #include <unistd.h>
 
-enum { FILES = 16, OUT = 100, ERR, ENDED, SECONDS = 60 };
+/* The descriptors whose places are kept, those of what the children write, and the seconds that a child may take. */
+enum { FILES = 16, OUT = 100, ERR = 101, ENDED = 102, SECONDS = 60 };
 
 void *__libc_malloc(size_t size);
 void *__libc_calloc(size_t count, size_t size);
