@@ -13,7 +13,6 @@ mod made;
 mod plain;
 mod reading;
 mod schema;
-mod tables;
 mod taxes;
 mod tickets;
 

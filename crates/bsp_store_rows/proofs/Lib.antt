@@ -3,4 +3,5 @@ pub mod MetaTable
 pub mod PlacedTables
 pub mod Tables
 pub mod CallerBack
-pub mod Words
+pub mod MemoBack
+pub mod OtherTexts

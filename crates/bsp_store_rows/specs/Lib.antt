@@ -3,3 +3,4 @@ pub mod Cells
 pub mod Tables
 pub mod PlacedTables
 pub mod CallerReading
+pub mod MemoReading

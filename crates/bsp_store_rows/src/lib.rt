@@ -9,7 +9,6 @@
 mod airlines;
 mod callers;
 mod cells;
-mod columns;
 mod memos;
 mod one_row;
 mod placed;
