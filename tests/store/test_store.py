@@ -393,6 +393,23 @@ def test_a_transaction_left_open(replies):
     expect("integrity after a transaction left open", [("ok",)], rows_of("copy.db", "PRAGMA integrity_check"))
 
 
+def columns_of_the_page():
+    """The columns of each table that docs/TABLES.md names, those of its key first."""
+    items = re.findall(r"^- \*\*`(\w+)`\*\* \((.*?)\): (.*?)\.$", re.sub(r"\n  ", " ", page("TABLES.md")), re.MULTILINE)
+    firsts = {name: (key, re.sub(r"\(.*?\)", "", others).split(". ")[0]) for name, key, others in items}
+    return {name: re.findall(r"`(\w+)`", key) + re.findall(r"`(\w+)`", others) for name, (key, others) in firsts.items()}
+
+
+def test_the_tables_are_those_of_every_office_of_this_version(replies):
+    """The texts of the tables are byte for byte those that version 3 has had from the start, and the page has their columns."""
+    texts = pathlib.Path(__file__).with_name("tables.sql").read_text(encoding="ascii")
+    made = [it for it, in rows_of("office.db", "SELECT sql FROM sqlite_schema WHERE type = 'table'")]
+    expect("the texts of the tables", texts, "".join(it + ";\n" for it in made))
+    names = re.findall(r"^CREATE TABLE (\w+)", texts, re.MULTILINE)
+    in_file = {it: [row[1] for row in rows_of("office.db", f"PRAGMA table_info({it})")] for it in names}
+    expect("the columns that the page has", in_file, columns_of_the_page())
+
+
 def queries():
     """The queries that docs/TABLES.md shows."""
     text = page("TABLES.md")

@@ -29,7 +29,7 @@ pub use Rattle.bsp_store_base.specs.Made.{HasNoRows}
 pub use Rattle.bsp_store_base.specs.MapTables.{after, AreStatementsOf, by_keys, change, deletion, HasRun, insertion, IsMapTable, IsText, key_project, key_test, MapTable, part, selection, width}
 pub use Rattle.bsp_store_base.specs.Order.{AreInOrder, IsInOrder, table_trees}
 pub use Rattle.bsp_store_base.specs.Reading.{agent_in, amount_in, below, code_in, if_there}
-pub use Rattle.bsp_store_base.specs.Schema.{airline_columns, commission_tax_table, item_columns, item_tax_columns, item_tax_table, memo_columns, meta_columns, meta_table, our_schema, second_related_columns, second_related_table, tally_tax_columns, tally_tax_table, terms_columns, terms_table}
+pub use Rattle.bsp_store_base.specs.Schema.{airline_table, commission_tax_table, item_table, item_tax_table, memo_table, meta_table, our_schema, second_related_table, tally_tax_table, terms_table}
 pub use Rattle.bsp_store_base.specs.Seconds.{sale_at, second_entry, second_in, second_pair, ticket, ticket_cmp, ticket_of, with_second, ticket_total}
 unfoldable pub use Rattle.bsp_store_base.specs.Seconds.{seconds_of}
 pub use Rattle.bsp_store_base.specs.Shows.{AreAllOf, IsQuery, ShowsAll, ShowsTable}

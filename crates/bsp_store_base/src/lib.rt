@@ -13,6 +13,7 @@ mod made;
 mod plain;
 mod reading;
 mod schema;
+mod tables;
 mod taxes;
 mod tickets;
 

@@ -22,14 +22,14 @@ pub(crate) trait Form<T> {
 }
 
 /// A column: its name, its kind, and whether it is NOT NULL.
-type Field = (&'static [u8], Kind, bool);
+type Field = (&'static str, Kind, bool);
 
 /// A foreign key: the place of its column, and the table to whose code it refers.
-type Foreign = (usize, &'static [u8]);
+type Foreign = (usize, &'static str);
 
 /// A table: its name, its tree, its columns, its foreign keys, and the places of its PRIMARY KEY.
 pub(crate) type Strict = (
-    &'static [u8],
+    &'static str,
     u32,
     &'static [Field],
     &'static [Foreign],
@@ -37,7 +37,7 @@ pub(crate) type Strict = (
 );
 
 /// The automatic index for the PRIMARY KEY of a table: its name, its tree, the tree of the table, and the places.
-pub(crate) type Unique = (&'static [u8], u32, u32, &'static [usize]);
+pub(crate) type Unique = (&'static str, u32, u32, &'static [usize]);
 
 /// Whether the items have these forms, in this order.
 pub(crate) fn have_forms<T, F: Form<T>>(items: &[T], forms: &[F]) -> bool
@@ -50,10 +50,10 @@ pub(crate) fn have_forms<T, F: Form<T>>(items: &[T], forms: &[F]) -> bool
     }
 }
 
-fn is_word(bytes: &Bytes, word: &[u8]) -> bool
+fn is_word(bytes: &Bytes, word: &str) -> bool
     ensures { IsTrue result ↔ (bytes.now ≡ word.now) }
 {
-    bytes.as_slice() == word
+    bytes.as_slice() == word.as_bytes()
 }
 
 fn are_places(places: &Items<usize>, key: &[usize]) -> bool
@@ -82,7 +82,7 @@ impl Form<Reference> for Foreign {
         match reference.parent_columns.as_slice() {
             [code] => are_places(&reference.columns, &[self.0])
                 && is_word(&reference.parent, self.1)
-                && is_word(code, b"code")
+                && is_word(code, "code")
                 && reference.on_delete == Action::NoAction
                 && reference.on_update == Action::NoAction
                 && !reference.is_deferred,

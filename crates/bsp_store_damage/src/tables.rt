@@ -1,5 +1,7 @@
 //! The tables of a book, by their names.
 
+use bsp_store_base::table;
+
 /// A table of a book.
 #[derive(Clone, Copy)]
 pub struct Table {
@@ -9,75 +11,42 @@ pub struct Table {
     key_columns: usize,
 }
 
-pub(crate) const META: Table = Table {
-    name: "meta",
-    key_columns: 1,
-};
+macro_rules! named {
+    ($table:ident) => {
+        Table {
+            name: table!($table, name),
+            key_columns: table!($table, key_width),
+        }
+    };
+}
 
-pub(crate) const TERMS: Table = Table {
-    name: "terms",
-    key_columns: 1,
-};
+pub(crate) const META: Table = named!(meta);
 
-pub(crate) const AIRLINE: Table = Table {
-    name: "airline",
-    key_columns: 1,
-};
+pub(crate) const TERMS: Table = named!(terms);
 
-pub(crate) const RATE: Table = Table {
-    name: "rate",
-    key_columns: 2,
-};
+pub(crate) const AIRLINE: Table = named!(airline);
 
-pub(crate) const PERIOD: Table = Table {
-    name: "period",
-    key_columns: 1,
-};
+pub(crate) const RATE: Table = named!(rate);
 
-pub(crate) const AGENT: Table = Table {
-    name: "agent",
-    key_columns: 1,
-};
+pub(crate) const PERIOD: Table = named!(period);
 
-pub(crate) const STOCK: Table = Table {
-    name: "stock",
-    key_columns: 2,
-};
+pub(crate) const AGENT: Table = named!(agent);
 
-pub(crate) const ITEM: Table = Table {
-    name: "item",
-    key_columns: 3,
-};
+pub(crate) const STOCK: Table = named!(stock);
 
-pub(crate) const MEMO: Table = Table {
-    name: "memo",
-    key_columns: 2,
-};
+pub(crate) const ITEM: Table = named!(item);
 
-pub(crate) const TALLY: Table = Table {
-    name: "tally",
-    key_columns: 3,
-};
+pub(crate) const MEMO: Table = named!(memo);
 
-pub(crate) const COMMISSION_TAX: Table = Table {
-    name: "commission_tax",
-    key_columns: 1,
-};
+pub(crate) const TALLY: Table = named!(tally);
 
-pub(crate) const ITEM_TAX: Table = Table {
-    name: "item_tax",
-    key_columns: 3,
-};
+pub(crate) const COMMISSION_TAX: Table = named!(commission_tax);
 
-pub(crate) const TALLY_TAX: Table = Table {
-    name: "tally_tax",
-    key_columns: 3,
-};
+pub(crate) const ITEM_TAX: Table = named!(item_tax);
 
-pub(crate) const SECOND_RELATED: Table = Table {
-    name: "second_related",
-    key_columns: 2,
-};
+pub(crate) const TALLY_TAX: Table = named!(tally_tax);
+
+pub(crate) const SECOND_RELATED: Table = named!(second_related);
 
 /// The tables in the order in which they are made.
 pub(crate) const TABLES: [Table; 14] = [

@@ -8,7 +8,7 @@ ghost use Rattle.bsp_store_items.specs.TaxWritten.{item_tax_written};
 use crate::items::run_on_item_key;
 use crate::row::flag;
 use bsp_rows::{Item, ItemKey};
-use bsp_store_base::{ItemTax, KeyedTable, Statements, agent_digits, number_digits};
+use bsp_store_base::{ItemTax, KeyedTable, Statements, agent_digits, number_digits, table};
 use sqlite::{Alter, Connection, Error};
 use sqlite_value::value::ValueRef;
 
@@ -64,10 +64,10 @@ impl KeyedTable<ItemKey, Item> for ItemTaxes {
 
     fn statements(&self) -> Statements {
         Statements {
-            delete: "DELETE FROM item_tax WHERE agent = ?1 AND number = ?2 AND canx = ?3",
-            insert: "INSERT INTO item_tax (agent, number, canx, tax, hundredths) VALUES (?1, ?2, ?3, ?4, ?5)",
-            update: "UPDATE item_tax SET tax = ?4, hundredths = ?5 WHERE agent = ?1 AND number = ?2 AND canx = ?3",
-            query: "SELECT agent, number, canx, tax, hundredths FROM item_tax ORDER BY agent, number, canx",
+            delete: table!(item_tax, delete),
+            insert: table!(item_tax, insert),
+            update: table!(item_tax, update),
+            query: table!(item_tax, select),
         }
     }
 

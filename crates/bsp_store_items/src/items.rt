@@ -5,7 +5,7 @@ ghost use Rattle.bsp_store_items.specs.Tables.{item_key_row};
 
 use crate::row::{ItemRow, flag};
 use bsp_rows::{Item, ItemKey};
-use bsp_store_base::{KeyedTable, Statements, agent_digits, number_digits};
+use bsp_store_base::{KeyedTable, Statements, agent_digits, number_digits, table};
 use sqlite::{Alter, Connection, Error};
 use sqlite_value::value::ValueRef;
 
@@ -42,15 +42,10 @@ impl KeyedTable<ItemKey, Item> for Items {
 
     fn statements(&self) -> Statements {
         Statements {
-            delete: "DELETE FROM item WHERE agent = ?1 AND number = ?2 AND canx = ?3",
-            insert: "INSERT INTO item (agent, number, canx, airline, code, issued, period, alive, name, fare, \
-                taxes, rate, commission, rel_airline, rel_number, ca, cc, ex, vendor) \
-                VALUES (?1, ?2, ?3, ?4, ?5, ?6, ?7, ?8, ?9, ?10, ?11, ?12, ?13, ?14, ?15, ?16, ?17, ?18, ?19)",
-            update: "UPDATE item SET airline = ?4, code = ?5, issued = ?6, period = ?7, alive = ?8, name = ?9, \
-                fare = ?10, taxes = ?11, rate = ?12, commission = ?13, rel_airline = ?14, rel_number = ?15, \
-                ca = ?16, cc = ?17, ex = ?18, vendor = ?19 WHERE agent = ?1 AND number = ?2 AND canx = ?3",
-            query: "SELECT agent, number, canx, airline, code, issued, period, alive, name, fare, taxes, rate, \
-                commission, rel_airline, rel_number, ca, cc, ex, vendor FROM item ORDER BY agent, number, canx",
+            delete: table!(item, delete),
+            insert: table!(item, insert),
+            update: table!(item, update),
+            query: table!(item, select),
         }
     }
 

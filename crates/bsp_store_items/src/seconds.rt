@@ -7,7 +7,7 @@ ghost use Rattle.bsp_store_items.specs.TaxWritten.{second_written};
 
 use bsp_rows::ReportedDocument;
 use bsp_store_base::{
-    KeyedTable, Statements, TicketKey, agent_digits, airline_digits, number_digits,
+    KeyedTable, Statements, TicketKey, agent_digits, airline_digits, number_digits, table,
 };
 use sqlite::{Alter, Connection, Error};
 use sqlite_value::value::ValueRef;
@@ -61,10 +61,10 @@ impl KeyedTable<TicketKey, ReportedDocument> for Seconds {
 
     fn statements(&self) -> Statements {
         Statements {
-            delete: "DELETE FROM second_related WHERE agent = ?1 AND number = ?2",
-            insert: "INSERT INTO second_related (agent, number, airline, rel_number) VALUES (?1, ?2, ?3, ?4)",
-            update: "UPDATE second_related SET airline = ?3, rel_number = ?4 WHERE agent = ?1 AND number = ?2",
-            query: "SELECT agent, number, airline, rel_number FROM second_related ORDER BY agent, number",
+            delete: table!(second_related, delete),
+            insert: table!(second_related, insert),
+            update: table!(second_related, update),
+            query: table!(second_related, select),
         }
     }
 

@@ -6,7 +6,7 @@ ghost use Rattle.bsp_store_base.specs.Columns.{tally_tax_row};
 ghost use Rattle.bsp_store_items.specs.TaxWritten.{tally_tax_written};
 
 use bsp_rows::{Tally, TallyKey};
-use bsp_store_base::{KeyedTable, Statements, agent_digits, airline_digits, period_digits};
+use bsp_store_base::{KeyedTable, Statements, agent_digits, airline_digits, period_digits, table};
 use sqlite::{Alter, Connection, Error};
 use sqlite_value::value::ValueRef;
 
@@ -58,10 +58,10 @@ impl KeyedTable<TallyKey, Tally> for TallyTaxes {
 
     fn statements(&self) -> Statements {
         Statements {
-            delete: "DELETE FROM tally_tax WHERE agent = ?1 AND airline = ?2 AND period = ?3",
-            insert: "INSERT INTO tally_tax (agent, airline, period, tax) VALUES (?1, ?2, ?3, ?4)",
-            update: "UPDATE tally_tax SET tax = ?4 WHERE agent = ?1 AND airline = ?2 AND period = ?3",
-            query: "SELECT agent, airline, period, tax FROM tally_tax ORDER BY agent, airline, period",
+            delete: table!(tally_tax, delete),
+            insert: table!(tally_tax, insert),
+            update: table!(tally_tax, update),
+            query: table!(tally_tax, select),
         }
     }
 

@@ -47,7 +47,7 @@ impl StoredTable<MemoKey, Memo, Tables> for StoredMemos {
     }
 
     fn put(&self, tables: &mut Tables, row: &Row) -> Result<bool, NoRoom> {
-        let Some((_, memo)) = read_memo(row) else {
+        let Some(memo) = read_memo(row) else {
             return Ok(false);
         };
         let key = MemoKey::of(memo.fields());

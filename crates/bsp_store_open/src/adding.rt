@@ -3,27 +3,18 @@
 ghost use Rattle.bsp_store_open.specs.Filled.{IsFilling};
 
 use crate::old_versions::OldVersion;
+use bsp_store_base::table;
 use sqlite::{Alter, Connection, Error};
 
 /// The texts that make the tables of taxes, with a tax of 0 for each item and each tally: from the tables of version 1 to
 /// those of version 2, where `meta` keeps its number.
-const TAXES: &str = "\
-    CREATE TABLE commission_tax (begins INT NOT NULL PRIMARY KEY, place INTEGER NOT NULL, \
-        hundredths INTEGER NOT NULL) STRICT; \
-    CREATE TABLE item_tax (agent TEXT NOT NULL, number TEXT NOT NULL, canx INTEGER NOT NULL, \
-        tax INTEGER NOT NULL, hundredths INTEGER NOT NULL, PRIMARY KEY (agent, number, canx)) STRICT; \
-    CREATE TABLE tally_tax (agent TEXT NOT NULL, airline TEXT NOT NULL, period TEXT NOT NULL, \
-        tax INTEGER NOT NULL, PRIMARY KEY (agent, airline, period)) STRICT; \
-    INSERT INTO item_tax (agent, number, canx, tax, hundredths) \
-        SELECT agent, number, canx, 0, 0 FROM item; \
-    INSERT INTO tally_tax (agent, airline, period, tax) SELECT agent, airline, period, 0 FROM tally";
+const TAXES: &str = table!(commission_tax, create [item_tax tally_tax
+    "INSERT INTO item_tax (agent, number, canx, tax, hundredths) SELECT agent, number, canx, 0, 0 FROM item; \
+    INSERT INTO tally_tax (agent, airline, period, tax) SELECT agent, airline, period, 0 FROM tally"] {});
 
 /// The texts that make the table of second related documents, with no row, and put version 3 into `meta`: from
 /// the tables of version 2 to ours.
-const SECONDS: &str = "\
-    CREATE TABLE second_related (agent TEXT NOT NULL, number TEXT NOT NULL, airline TEXT NOT NULL, \
-        rel_number TEXT NOT NULL, PRIMARY KEY (agent, number)) STRICT; \
-    UPDATE meta SET version = 3";
+const SECONDS: &str = table!(second_related, create ["UPDATE meta SET version = 3"] {});
 
 /// Brings the tables of an older version to ours, in the transaction that is open on the connection. It stays open, and
 /// nothing is committed.

@@ -12,6 +12,7 @@ ghost use Rattle.bsp_store_open.specs.Migrating.{HasNoOldBook, HasNumber, IsEarl
 use crate::fault::OpenFault;
 use crate::old_versions::OldVersion;
 use crate::version::is_known;
+use bsp_store_base::table;
 use bsp_store_load::read_version;
 use sqlite::{Alter, Connection, Row};
 
@@ -51,7 +52,7 @@ pub(crate) fn expect_numbered<S: Alter>(
     ensures refused { IfErr result (λ fault. is_refusal fault ≡ true → HasNoOldBook S.Store version fault conn.old conn.new) }
     ensures spares { Spares S.Store conn.old conn.new }
 {
-    let rows = conn.query_all("SELECT id, version, day, closed FROM meta", &[])?;
+    let rows = conn.query_all(table!(meta, all), &[])?;
     expect_number(&rows, version)
 }
 

@@ -3,5 +3,4 @@ pub mod MetaTable
 pub mod PlacedTables
 pub mod Tables
 pub mod CallerBack
-pub mod MemoBack
-pub mod OtherTexts
+pub mod Words

@@ -1,22 +1,23 @@
 -- The tables of one row at most: that of the day and of the closed periods, and that of the terms.
-use Rattle.std.proofs.Common.{◌≡◌, ℕ, List, [], ◌∷◌, codes, map, Bool, true, false, is_some, Option, Some, None, Ok, refl, sym, ap, ap₂, subst, IsPermutation, Equal, filter, not}
+use Rattle.std.proofs.Common.{◌≡◌, ℕ, List, [], ◌∷◌, map, Bool, true, false, is_some, Option, Some, None, Ok, refl, sym, ap, ap₂, subst, IsPermutation, Equal, filter, not}
 use Rattle.bsp_store_base.proofs.Std.{⊤, IsPermutation-refl, option_to_list, range_with_len}
 use Rattle.bsp_store_base.proofs.Sqlite.{all_of, col, command_of, Delete, eval_all, everything, Executes, filter_none, Ghosts, Held, Insert, IsDatabase, IsPlain, lit, Null, reads_listing, Row, rowid, runs_as, Select, State, state, understood, Update}
 use Rattle.sqlite_schema.specs.declared.command.Source.TheVariants.{Values}
 use Rattle.sqlite_schema.specs.declared.schema.Column.{Column}
-use Rattle.bsp_store_base.proofs.Base.{cast_int, cast_null, cast_same, Content, deletes, Does, flag_is, form, inserts, Keeps, KeepsTable, key_project, key_test, Meta, meta_columns, meta_row, meta_rows, meta_table, no_work, one_column, our_schema, simple, terms_columns, terms_row, terms_rows, terms_table, updates, writes, wrote}
+use Rattle.bsp_store_base.proofs.Base.{cast_int, cast_null, cast_same, Content, deletes, Does, flag_is, form, inserts, Keeps, KeepsTable, key_project, key_test, Meta, meta_table, meta_row, meta_rows, no_work, one_column, our_schema, simple, terms_table, terms_row, terms_rows, updates, writes, wrote}
 use Rattle.bsp_rows.specs.Terms.{Terms}
+use Rattle.bsp_store_rows.specs.declared.one_row.TheConstants.{ADD, ADD_TERMS, ALL, ALL_TERMS, CLEAR_TERMS, SET}
 
 -- ---- the texts
 
 abbrev pub add_text : List ℕ
-add_text = codes "INSERT INTO meta (id, version, day, closed) VALUES (?1, ?2, ?3, ?4)"
+add_text = ADD.now
 
 abbrev pub all_text : List ℕ
-all_text = codes "SELECT id, version, day, closed FROM meta"
+all_text = ALL.now
 
 abbrev pub set_text : List ℕ
-set_text = codes "UPDATE meta SET version = ?2, day = ?3, closed = ?4 WHERE id = ?1"
+set_text = SET.now
 
 set_is : (command_of (understood our_schema set_text) ≡ Update 0 (record { lets = []; body = simple meta_table.tree (key_test 1) (key_project 1 4) [] })) × IsPlain (understood our_schema set_text)
 unfolding understood everything
@@ -27,7 +28,7 @@ unfolding understood everything
 add_is = (refl, (refl, refl))
 
 abbrev pub names : List (List ℕ)
-names = map (λ (c : Column). c.name) meta_columns
+names = map (λ (c : Column). c.name) meta_table.columns
 
 pub all_is : (command_of (understood our_schema all_text) ≡ Select (record { lets = []; body = simple meta_table.tree [] (map (col 1) (range_with_len 1 4)) [] }) names) × IsPlain (understood our_schema all_text) × (reads_listing our_schema all_text ≡ false)
 unfolding understood everything
@@ -42,7 +43,7 @@ replaces : (old new : State) (was entry : Meta) (count : ℕ) (now : Content) �
 replaces old new was entry count now there keeps h =
     let row = meta_row entry in
     let it = updates our_schema 0 meta_table refl refl (λ db. refl) 4 (no_work meta_table.tree) set_text set_is.1 row (key_test 1) (key_project 1 4) set_is.0 meta_row (λ e. true) (λ r. refl) (λ r. refl) (λ e. one_column _ Equal (flag_is true true)) (λ e. refl) was row (λ r same. ap (λ cs. eval_all (key_project 1 4) (row ∷ (rowid r ∷ cs) ∷ [])) same)
-    (cast_same meta_columns row (cast_int _, (cast_int _, (cast_int _, (cast_int _, tt))))) (λ id. refl) old new keeps.schema count h (was ∷ []) refl (subst (λ l. KeepsTable 4 l (old.now.trees meta_table.tree)) (ap meta_rows there) keeps.kept.0) in
+    (cast_same meta_table.columns row (cast_int _, (cast_int _, (cast_int _, (cast_int _, tt))))) (λ id. refl) old new keeps.schema count h (was ∷ []) refl (subst (λ l. KeepsTable 4 l (old.now.trees meta_table.tree)) (ap meta_rows there) keeps.kept.0) in
     wrote form old.now new.now meta_table.tree now (with entry now) _ it.same it.kept it.others (IsPermutation-refl _, (refl, (refl, (refl, (refl, (refl, (refl, (refl, (refl, (refl, (refl, (refl, (refl, (refl, tt)))))))))))))) keeps
 
 -- the row that is there
@@ -54,7 +55,7 @@ pub adds : (old new : State) (entry : Meta) (count : ℕ) (now : Content) → no
 adds old new entry count now none keeps h =
     let row = meta_row entry in
     let it = inserts our_schema 0 meta_table refl refl (λ db. refl) 4 (no_work meta_table.tree) add_text add_is.1 row _ 5 add_is.0 (Null ∷ row) row refl
-    (ap₂ ◌∷◌ cast_null (cast_same meta_columns row (cast_int _, (cast_int _, (cast_int _, (cast_int _, tt)))))) (λ id. refl) old new keeps.schema count h _ keeps.kept.0 in
+    (ap₂ ◌∷◌ cast_null (cast_same meta_table.columns row (cast_int _, (cast_int _, (cast_int _, (cast_int _, tt)))))) (λ id. refl) old new keeps.schema count h _ keeps.kept.0 in
     let alone = subst (λ o. IsPermutation (row ∷ []) (row ∷ meta_rows o)) (sym none) (IsPermutation-refl _) in
     wrote form old.now new.now meta_table.tree now (with entry now) _ it.same it.kept it.others (alone, (refl, (refl, (refl, (refl, (refl, (refl, (refl, (refl, (refl, (refl, (refl, (refl, (refl, tt)))))))))))))) keeps
 
@@ -88,13 +89,13 @@ no_rows : {A : Type 0} (row_of : A → Row) (xs : List A) → IsPermutation [] (
 no_rows row_of xs = subst (λ l. IsPermutation [] (map row_of l)) (sym (filter_none _ xs (all_of _ (λ x. refl) xs))) (IsPermutation-refl [])
 
 abbrev pub clear_text : List ℕ
-clear_text = codes "DELETE FROM terms"
+clear_text = CLEAR_TERMS.now
 
 abbrev pub terms_text : List ℕ
-terms_text = codes "INSERT INTO terms (id, currency, review, documents) VALUES (?1, ?2, ?3, ?4)"
+terms_text = ADD_TERMS.now
 
 abbrev pub all_terms_text : List ℕ
-all_terms_text = codes "SELECT id, currency, review, documents FROM terms"
+all_terms_text = ALL_TERMS.now
 
 clear_is : (command_of (understood our_schema clear_text) ≡ Delete 1 (record { lets = []; body = simple terms_table.tree [] (col 1 0 ∷ []) [] })) × IsPlain (understood our_schema clear_text)
 unfolding understood everything
@@ -104,7 +105,7 @@ terms_is : (command_of (understood our_schema terms_text) ≡ Insert 1 (Values (
 unfolding understood everything
 terms_is = (refl, (refl, refl))
 
-pub all_terms_is : (command_of (understood our_schema all_terms_text) ≡ Select (record { lets = []; body = simple terms_table.tree [] (map (col 1) (range_with_len 1 4)) [] }) (map (λ (c : Column). c.name) terms_columns)) × IsPlain (understood our_schema all_terms_text) × (reads_listing our_schema all_terms_text ≡ false)
+pub all_terms_is : (command_of (understood our_schema all_terms_text) ≡ Select (record { lets = []; body = simple terms_table.tree [] (map (col 1) (range_with_len 1 4)) [] }) (map (λ (c : Column). c.name) terms_table.columns)) × IsPlain (understood our_schema all_terms_text) × (reads_listing our_schema all_terms_text ≡ false)
 unfolding understood everything
 all_terms_is = (refl, (refl, refl), refl)
 
@@ -129,7 +130,7 @@ adds_terms : (old new : State) (entry : Terms) (count : ℕ) (now : Content) →
 adds_terms old new entry count now none keeps h =
     let row = terms_row entry in
     let it = inserts our_schema 1 terms_table refl refl (λ db. refl) 4 (no_work terms_table.tree) terms_text terms_is.1 row _ 5 terms_is.0 (Null ∷ row) row refl
-    (ap₂ ◌∷◌ cast_null (cast_same terms_columns row (cast_int _, (refl, (cast_int _, (cast_int _, tt)))))) (λ id. refl) old new keeps.schema count h _ keeps.kept.1.0 in
+    (ap₂ ◌∷◌ cast_null (cast_same terms_table.columns row (cast_int _, (refl, (cast_int _, (cast_int _, tt)))))) (λ id. refl) old new keeps.schema count h _ keeps.kept.1.0 in
     let alone = subst (λ o. IsPermutation (row ∷ []) (row ∷ terms_rows o)) (sym none) (IsPermutation-refl _) in
     wrote form old.now new.now terms_table.tree now (with_terms entry now) _ it.same it.kept it.others (refl, (alone, (refl, (refl, (refl, (refl, (refl, (refl, (refl, (refl, (refl, (refl, (refl, (refl, tt)))))))))))))) keeps
 

@@ -3,4 +3,3 @@ pub mod Cells
 pub mod Tables
 pub mod PlacedTables
 pub mod CallerReading
-pub mod MemoReading

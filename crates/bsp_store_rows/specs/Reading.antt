@@ -1,9 +1,22 @@
 -- Which entry a row is read as.
-use Rattle.std.specs.Prelude.{◌≡◌, ◌^◌, ℕ, Option, option_and_then, option_map}
-use Rattle.bsp_store_base.specs.Sqlite.{column, Int, Row, Text}
-use Rattle.bsp_store_base.specs.Entries.{CivilDay, CommissionTax, day_number, Period, Rate, Terms}
-use Rattle.bsp_store_base.specs.Base.{airline_text, below, code_in, count, entry_of, if_there, period_text, token_in, version}
+use Rattle.std.specs.Prelude.{[], ◌∷◌, ◌≡◌, ◌^◌, suc, ℕ, ⊤, Option, option_and_then, option_map}
+use Rattle.bsp_store_base.specs.Sqlite.{column, Int, Row, Text, Value}
+use Rattle.bsp_store_base.specs.Entries.{CivilDay, CommissionTax, day_number, kind_reading, Period, Rate, state_reading, Terms}
+use Rattle.bsp_store_base.specs.Base.{airline_text, below, code_in, count, entry_of, if_there, period_text, text_in, token_in, version}
+use Rattle.bsp_rows.specs.MemoKind.{MemoKind}
+use Rattle.bsp_rows.specs.MemoState.{MemoState}
 use Rattle.bsp_store_base.specs.declared.airlines.AirlineEntry.{AirlineEntry}
+
+abbrev pub kind_in : Value → Option MemoKind
+kind_in v = option_and_then kind_reading (text_in v)
+
+abbrev pub state_in : Value → Option MemoState
+state_in v = option_and_then state_reading (text_in v)
+
+-- the columns of a row from this one on have these values
+abbrev pub HasValues : Row → ℕ → Row → Type 0
+HasValues r at [] = ⊤
+HasValues r at (v ∷ vs) = (column r at ≡ v) × HasValues r (suc at) vs
 
 -- ---- what the columns of a row say, its place and its id apart
 

@@ -8,7 +8,7 @@ ghost use Rattle.bsp_store_rows.specs.Cells.{cell, written};
 
 use crate::cells::{Cell, run};
 use bsp_rows::{AirlineCode, Token};
-use bsp_store_base::{AirlineEntry, KeyedTable, Statements, airline_digits};
+use bsp_store_base::{AirlineEntry, KeyedTable, Statements, airline_digits, table};
 use sqlite::{Alter, Connection, Error};
 use sqlite_value::value::ValueRef;
 use std::marker::Model;
@@ -115,10 +115,10 @@ impl KeyedTable<AirlineCode, StoredAirline> for Airlines {
     #[tactic(auto, using(crate::proofs::Tables::airlines_lawful))]
     fn statements(&self) -> Statements {
         Statements {
-            delete: "DELETE FROM airline WHERE code = ?1",
-            insert: "INSERT INTO airline (code, place, token) VALUES (?1, ?2, ?3)",
-            update: "UPDATE airline SET place = ?2, token = ?3 WHERE code = ?1",
-            query: "SELECT code, place, token FROM airline ORDER BY code",
+            delete: table!(airline, delete),
+            insert: table!(airline, insert),
+            update: table!(airline, update),
+            query: table!(airline, select),
         }
     }
 

@@ -10,7 +10,7 @@ ghost use Rattle.bsp_store_rows.specs.Cells.{written};
 use crate::cells::{Cell, run};
 use bsp_rows::{AgentCode, DocNumber, RangeKey, Token};
 use bsp_store_base::{
-    KeyedTable, Statements, agent_at, agent_digits, number_at, number_digits, token_at,
+    KeyedTable, Statements, agent_at, agent_digits, number_at, number_digits, table, token_at,
 };
 use sqlite::{Alter, Connection, Error, Row};
 use sqlite_value::value::ValueRef;
@@ -54,10 +54,10 @@ impl KeyedTable<AgentCode, Token> for Agents {
     #[tactic(auto, using(crate::proofs::Tables::agents_lawful))]
     fn statements(&self) -> Statements {
         Statements {
-            delete: "DELETE FROM agent WHERE code = ?1",
-            insert: "INSERT INTO agent (code, token) VALUES (?1, ?2)",
-            update: "UPDATE agent SET token = ?2 WHERE code = ?1",
-            query: "SELECT code, token FROM agent ORDER BY code",
+            delete: table!(agent, delete),
+            insert: table!(agent, insert),
+            update: table!(agent, update),
+            query: table!(agent, select),
         }
     }
 
@@ -125,10 +125,10 @@ impl KeyedTable<RangeKey, DocNumber> for Ranges {
     #[tactic(auto, using(crate::proofs::Tables::ranges_lawful))]
     fn statements(&self) -> Statements {
         Statements {
-            delete: "DELETE FROM stock WHERE agent = ?1 AND lo = ?2",
-            insert: "INSERT INTO stock (agent, lo, hi) VALUES (?1, ?2, ?3)",
-            update: "UPDATE stock SET hi = ?3 WHERE agent = ?1 AND lo = ?2",
-            query: "SELECT agent, lo, hi FROM stock ORDER BY agent, lo",
+            delete: table!(stock, delete),
+            insert: table!(stock, insert),
+            update: table!(stock, update),
+            query: table!(stock, select),
         }
     }
 

@@ -9,6 +9,7 @@
 mod airlines;
 mod callers;
 mod cells;
+mod columns;
 mod memos;
 mod one_row;
 mod placed;

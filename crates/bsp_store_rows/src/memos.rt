@@ -1,20 +1,23 @@
 //! The table of the memos, and a memo, read out of a row.
 
-ghost use Rattle.std.specs.Prelude.{◌≡◌};
-ghost use Rattle.bsp_store_base.specs.Sqlite.{bound, column, or_null};
-ghost use Rattle.bsp_store_base.specs.Base.{code_in, if_there, memo_row, period_text};
+ghost use Rattle.std.specs.Prelude.{◌≡◌, Some, true, IfSome};
+ghost use Rattle.bsp_store_base.specs.Sqlite.{bound, or_null};
+ghost use Rattle.bsp_store_base.specs.Base.{IsMemoEntry, memo_row, period_text};
+ghost use Rattle.bsp_store_base.specs.Entries.{is_memo, memo_key, MemoFields as Fields};
 ghost use Rattle.bsp_store_rows.specs.Cells.{cell, memo_written};
-ghost use Rattle.bsp_store_rows.specs.MemoReading.{IsMemoIn, kind_in, memo_key_in, memo_in, memo_of, reason_in, state_in};
+ghost use Rattle.bsp_store_rows.specs.Reading.{HasValues};
 
 use crate::cells::{Cell, run};
-use bsp_rows::{Day, Memo, MemoFields, MemoKey, MemoKind, MemoState, PeriodCode, Reason};
+use crate::columns::{
+    agent_at, airline_at, amount_at, day_at, kind_at, maybe_period_at, number_at, reason_at,
+    state_at,
+};
+use bsp_rows::{Memo, MemoFields, MemoKey, PeriodCode};
 use bsp_store_base::{
-    KeyedTable, Statements, agent_at, agent_digits, airline_at, airline_digits, amount_at, day_at,
-    is_null, number_at, number_digits, period_at, period_digits,
+    KeyedTable, Statements, agent_digits, airline_digits, number_digits, period_digits, table,
 };
 use sqlite::{Alter, Connection, Error, Row};
 use sqlite_value::value::ValueRef;
-use std::str;
 
 /// What is written of a memo: its key and its other codes in digits, and the rest of its fields.
 #[derive(Clone, Copy)]
@@ -93,13 +96,10 @@ impl KeyedTable<MemoKey, Memo> for Memos {
     #[tactic(auto, using(crate::proofs::Tables::memos_lawful))]
     fn statements(&self) -> Statements {
         Statements {
-            delete: "DELETE FROM memo WHERE airline = ?1 AND number = ?2",
-            insert: "INSERT INTO memo (airline, number, agent, kind, amount, first_amount, reason, issued, state, \
-                billed) VALUES (?1, ?2, ?3, ?4, ?5, ?6, ?7, ?8, ?9, ?10)",
-            update: "UPDATE memo SET agent = ?3, kind = ?4, amount = ?5, first_amount = ?6, reason = ?7, issued = ?8, \
-                state = ?9, billed = ?10 WHERE airline = ?1 AND number = ?2",
-            query: "SELECT airline, number, agent, kind, amount, first_amount, reason, issued, state, billed FROM memo \
-                ORDER BY airline, number",
+            delete: table!(memo, delete),
+            insert: table!(memo, insert),
+            update: table!(memo, update),
+            query: table!(memo, select),
         }
     }
 
@@ -129,71 +129,24 @@ impl KeyedTable<MemoKey, Memo> for Memos {
     }
 }
 
-#[tactic(auto, using(crate::proofs::OtherTexts::no_kind))]
-fn kind_at(row: &Row, at: usize) -> Option<MemoKind>
-    ensures { result ≡ kind_in (column row.now at) }
-{
-    match row.get_ref(at) {
-        Ok(ValueRef::Text(text)) => match str::from_utf8(text) {
-            Ok(text) => MemoKind::read(text),
-            Err(_) => None,
-        },
-        _ => None,
-    }
-}
-
-#[tactic(auto, using(crate::proofs::OtherTexts::no_state))]
-fn state_at(row: &Row, at: usize) -> Option<MemoState>
-    ensures { result ≡ state_in (column row.now at) }
-{
-    match row.get_ref(at) {
-        Ok(ValueRef::Text(text)) => match str::from_utf8(text) {
-            Ok(text) => MemoState::read(text),
-            Err(_) => None,
-        },
-        _ => None,
-    }
-}
-
-fn reason_at(row: &Row, at: usize) -> Option<Reason>
-    ensures { result ≡ reason_in (column row.now at) }
-{
-    match row.get_ref(at) {
-        Ok(ValueRef::Text(text)) => Reason::read(text),
-        _ => None,
-    }
-}
-
-fn key_of(row: &Row) -> Option<MemoKey>
-    ensures { result ≡ memo_key_in row.now }
+#[tactic(auto, using(crate::proofs::Words::amounts_fit))]
+fn read_fields(row: &Row) -> Option<MemoFields>
+    ensures row { IfSome result (λ memo. HasValues row.now 0 (memo_row (memo_key memo, memo))) }
+    ensures back { (memo : Fields) → IsMemoEntry (memo_key memo, memo) → is_memo memo ≡ true → HasValues row.now 0 (memo_row (memo_key memo, memo)) → result ≡ Some memo }
 {
     let airline = airline_at(row, 0)?;
     let document = number_at(row, 1)?;
-    Some(MemoKey { airline, document })
-}
-
-fn billed_of(row: &Row) -> Option<Option<PeriodCode>>
-    ensures { result ≡ if_there (column row.now 9) (code_in 5 (column row.now 9)) }
-{
-    if is_null(row, 9) {
-        return Some(None);
-    }
-    Some(Some(period_at(row, 9)?))
-}
-
-fn memo_of(key: MemoKey, issued: Day, row: &Row) -> Option<Memo>
-    ensures { result ≡ memo_of key issued row.now }
-{
     let agent = agent_at(row, 2)?;
     let kind = kind_at(row, 3)?;
     let amount = amount_at(row, 4)?;
     let issued_amount = amount_at(row, 5)?;
     let reason = reason_at(row, 6)?;
+    let issued = day_at(row, 7)?;
     let state = state_at(row, 8)?;
-    let billed = billed_of(row)?;
-    Memo::restore(MemoFields {
-        airline: key.airline,
-        document: key.document,
+    let billed = maybe_period_at(row, 9)?;
+    Some(MemoFields {
+        airline,
+        document,
         agent,
         kind,
         amount,
@@ -205,18 +158,13 @@ fn memo_of(key: MemoKey, issued: Day, row: &Row) -> Option<Memo>
     })
 }
 
-fn memo_in(issued: Option<Day>, row: &Row) -> Option<(MemoKey, Memo)>
-    ensures { result ≡ memo_in issued row.now }
+/// The memo of a row of `memo`.
+pub fn read_memo(row: &Row) -> Option<Memo>
+    ensures row { IfSome result (λ memo. HasValues row.now 0 (memo_row (memo_key memo, memo))) }
+    ensures back { (memo : Fields) → IsMemoEntry (memo_key memo, memo) → is_memo memo ≡ true → HasValues row.now 0 (memo_row (memo_key memo, memo)) → result ≡ Some memo }
 {
-    let issued = issued?;
-    let key = key_of(row)?;
-    Some((key, memo_of(key, issued, row)?))
-}
-
-/// The key and the memo that a row of the table reads as, and none of a row that is no memo's.
-pub fn read_memo(row: &Row) -> Option<(MemoKey, Memo)>
-    ensures { IsMemoIn row.now result }
-{
-    let issued = day_at(row, 7);
-    memo_in(issued, row)
+    match read_fields(row) {
+        Some(fields) => Memo::restore(fields),
+        None => None,
+    }
 }

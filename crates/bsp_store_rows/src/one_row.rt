@@ -7,15 +7,24 @@ ghost use Rattle.bsp_store_rows.specs.Cells.{written};
 
 use crate::cells::Cell;
 use bsp_rows::{Day, Terms};
+use bsp_store_base::table;
 use sqlite::{Alter, Connection, Error, ErrorCode, Transaction};
 use sqlite_value::value::ValueRef;
 
 /// The version of the tables.
 pub const VERSION: i64 = 3;
 
-const ADD: &str = "INSERT INTO meta (id, version, day, closed) VALUES (?1, ?2, ?3, ?4)";
+const ADD: &str = table!(meta, insert);
 
-const SET: &str = "UPDATE meta SET version = ?2, day = ?3, closed = ?4 WHERE id = ?1";
+const SET: &str = table!(meta, update);
+
+const ALL: &str = table!(meta, all);
+
+const CLEAR_TERMS: &str = "DELETE FROM terms";
+
+const ADD_TERMS: &str = table!(terms, insert);
+
+const ALL_TERMS: &str = table!(terms, all);
 
 /// The row of the business day and of how many periods are closed.
 #[derive(Clone, Copy)]
@@ -92,7 +101,7 @@ pub fn put_meta<S: Alter>(
 pub fn meta_query() -> &'static str
     ensures { ShowsTable meta_part result.now }
 {
-    "SELECT id, version, day, closed FROM meta"
+    ALL
 }
 
 /// The row of the terms of the market.
@@ -139,14 +148,11 @@ pub fn put_terms<S: Alter>(conn: &mut Connection<S>, terms: Option<Terms>) -> Re
     ensures ok { OnOk result (Changes S.Store conn.old conn.new (λ now. ⊤) (λ now. record now { terms = terms })) }
     ensures err { OnErr result (GivesUp S.Store conn.old conn.new) }
 {
-    conn.execute("DELETE FROM terms", &[])?;
+    conn.execute(CLEAR_TERMS, &[])?;
     let Some(terms) = terms else {
         return Ok(());
     };
-    conn.execute(
-        "INSERT INTO terms (id, currency, review, documents) VALUES (?1, ?2, ?3, ?4)",
-        &TermsRow::of(&terms).values(),
-    )?;
+    conn.execute(ADD_TERMS, &TermsRow::of(&terms).values())?;
     Ok(())
 }
 
@@ -154,5 +160,5 @@ pub fn put_terms<S: Alter>(conn: &mut Connection<S>, terms: Option<Terms>) -> Re
 pub fn terms_query() -> &'static str
     ensures { ShowsTable terms_part result.now }
 {
-    "SELECT id, currency, review, documents FROM terms"
+    ALL_TERMS
 }

@@ -9,7 +9,7 @@ ghost use Rattle.bsp_store_rows.specs.PlacedTables.{has_first, with_all};
 
 use crate::cells::{Cell, run};
 use bsp_rows::{CommissionTax, Period, Rate};
-use bsp_store_base::{airline_digits, period_digits};
+use bsp_store_base::{airline_digits, period_digits, table};
 use sqlite::{Alter, Connection, Error};
 use sqlite_value::value::ValueRef;
 
@@ -121,8 +121,8 @@ impl PlacedTable<Rate> for Rates {
     #[tactic(auto, using(crate::proofs::Tables::rates_lawful))]
     fn statements(&self) -> PlacedStatements {
         PlacedStatements {
-            insert: "INSERT INTO rate (airline, begins, place, hundredths) VALUES (?1, ?2, ?3, ?4)",
-            query: "SELECT airline, begins, place, hundredths FROM rate ORDER BY place",
+            insert: table!(rate, insert),
+            query: table!(rate, placed),
         }
     }
 
@@ -186,8 +186,8 @@ impl PlacedTable<Period> for Periods {
     #[tactic(auto, using(crate::proofs::Tables::periods_lawful))]
     fn statements(&self) -> PlacedStatements {
         PlacedStatements {
-            insert: "INSERT INTO period (code, place, begins, ends, remit) VALUES (?1, ?2, ?3, ?4, ?5)",
-            query: "SELECT code, place, begins, ends, remit FROM period ORDER BY place",
+            insert: table!(period, insert),
+            query: table!(period, placed),
         }
     }
 
@@ -243,8 +243,8 @@ impl PlacedTable<CommissionTax> for CommissionTaxes {
     #[tactic(auto, using(crate::proofs::Tables::commission_taxes_lawful))]
     fn statements(&self) -> PlacedStatements {
         PlacedStatements {
-            insert: "INSERT INTO commission_tax (begins, place, hundredths) VALUES (?1, ?2, ?3)",
-            query: "SELECT begins, place, hundredths FROM commission_tax ORDER BY place",
+            insert: table!(commission_tax, insert),
+            query: table!(commission_tax, placed),
         }
     }
 

@@ -1,57 +1,20 @@
 //! The entries of the plan, read back from rows that any program may have written.
 
-ghost use Rattle.std.specs.Prelude.{◌≡◌, ◌<◌, ◌^◌, ℕ, List, IfSome, IsTrue};
-ghost use Rattle.bsp_store_base.specs.Sqlite.{column, Int, Text};
-ghost use Rattle.bsp_store_base.specs.Entries.{CivilDay, day_number, is_day};
-ghost use Rattle.bsp_rows.specs.Letters.{currency_reading};
+ghost use Rattle.std.specs.Prelude.{◌≡◌, ◌<◌, ◌^◌, ℕ, IfSome, IsTrue};
+ghost use Rattle.bsp_store_base.specs.Sqlite.{column};
+ghost use Rattle.bsp_store_base.specs.Entries.{CivilDay, is_day};
 ghost use Rattle.bsp_rows.specs.Period.{Period as PeriodEntry};
 ghost use Rattle.bsp_rows.specs.Rate.{Rate as RateEntry};
 ghost use Rattle.bsp_rows.specs.CommissionTax.{CommissionTax as TaxEntry};
 ghost use Rattle.bsp_rows.specs.Terms.{Terms as TermsEntry};
-ghost use Rattle.bsp_store_base.specs.Base.{airline_text, AreTerms, below, if_there, int_in, IsCommissionTax, IsPeriod, IsRate, period_text, token_in};
+ghost use Rattle.bsp_store_base.specs.Base.{AreTerms, below, if_there, int_in, IsCommissionTax, IsPeriod, IsRate, token_in};
 ghost use Rattle.bsp_store_rows.specs.Reading.{IsMetaRow, IsTermsRow, IsRateRow, IsPeriodRow, IsCommissionTaxRow, airline_in};
 
+use crate::columns::{airline_at, currency_at, day_at, period_at};
 use crate::one_row::VERSION;
-use bsp_rows::{AirlineCode, CommissionTax, Currency, Day, Period, PeriodCode, Rate, Terms, Token};
+use bsp_rows::{AirlineCode, CommissionTax, Day, Period, Rate, Terms, Token};
 use bsp_store_base::{AirlineEntry, below_at, int_at, is_null, token_at};
 use sqlite::Row;
-use sqlite_value::value::ValueRef;
-
-/// The day whose number is in a column.
-#[tactic(auto, using(bsp_store_base::proofs::Days::read_back))]
-fn day_at(row: &Row, at: usize) -> Option<Day>
-    ensures row { IfSome result (λ d. column row.now at ≡ Int (day_number d)) }
-    ensures back { (d : CivilDay) → IsTrue (is_day d) → column row.now at ≡ Int (day_number d) → result ≡ Some d }
-{
-    bsp_store_base::day_at(row, at)
-}
-
-/// The airline whose digits are in a column.
-fn airline_at(row: &Row, at: usize) -> Option<AirlineCode>
-    ensures row { IfSome result (λ n. column row.now at ≡ airline_text n) }
-    ensures back { (n : ℕ) → n < 10 ^ 3 → column row.now at ≡ airline_text n → result ≡ Some n }
-{
-    bsp_store_base::airline_at(row, at)
-}
-
-/// The period whose digits are in a column.
-fn period_at(row: &Row, at: usize) -> Option<PeriodCode>
-    ensures row { IfSome result (λ n. column row.now at ≡ period_text n) }
-    ensures back { (n : ℕ) → n < 10 ^ 5 → column row.now at ≡ period_text n → result ≡ Some n }
-{
-    bsp_store_base::period_at(row, at)
-}
-
-/// The currency whose letters are in a column.
-fn currency_at(row: &Row, at: usize) -> Option<Currency>
-    ensures row { IfSome result (λ c. column row.now at ≡ Text c) }
-    ensures back { (c : List ℕ) → currency_reading c ≡ Some c → column row.now at ≡ Text c → result ≡ Some c }
-{
-    match row.get_ref(at) {
-        Ok(ValueRef::Text(text)) => Currency::read(text),
-        _ => None,
-    }
-}
 
 /// The version of the tables that a row of `meta` has.
 pub fn read_version(row: &Row) -> Option<i64>

@@ -3,14 +3,14 @@
 ghost use Rattle.std.specs.Prelude.{◌≡◌};
 ghost use Rattle.sqlite.specs.Values.{bound};
 ghost use Rattle.bsp_store_base.specs.Columns.{tally_row};
-ghost use Rattle.bsp_store_rows.specs.MemoReading.{tally_key_in};
+ghost use Rattle.bsp_store_rows.specs.CallerReading.{tally_key_in};
 ghost use Rattle.bsp_store_rows.specs.Cells.{tally_written};
 
 use crate::cells::run;
 use bsp_rows::{Tally, TallyKey};
 use bsp_store_base::{
     KeyedTable, Statements, agent_at, agent_digits, airline_at, airline_digits, period_at,
-    period_digits,
+    period_digits, table,
 };
 use sqlite::{Alter, Connection, Error, Row};
 use sqlite_value::value::ValueRef;
@@ -85,13 +85,10 @@ impl KeyedTable<TallyKey, Tally> for Tallies {
     #[tactic(auto, using(crate::proofs::Tables::tallies_lawful))]
     fn statements(&self) -> Statements {
         Statements {
-            delete: "DELETE FROM tally WHERE agent = ?1 AND airline = ?2 AND period = ?3",
-            insert: "INSERT INTO tally (agent, airline, period, accepted, living, canx, memo_count, cash, credit, \
-                commission, memos) VALUES (?1, ?2, ?3, ?4, ?5, ?6, ?7, ?8, ?9, ?10, ?11)",
-            update: "UPDATE tally SET accepted = ?4, living = ?5, canx = ?6, memo_count = ?7, cash = ?8, credit = ?9, \
-                commission = ?10, memos = ?11 WHERE agent = ?1 AND airline = ?2 AND period = ?3",
-            query: "SELECT agent, airline, period, accepted, living, canx, memo_count, cash, credit, commission, memos \
-                FROM tally ORDER BY agent, airline, period",
+            delete: table!(tally, delete),
+            insert: table!(tally, insert),
+            update: table!(tally, update),
+            query: table!(tally, select),
         }
     }
 

@@ -54,6 +54,7 @@ module _ {S : Type 0} {g : Ghosts S} where
     }
     restated (Err e) it to same = record { ok = tt; err = λ now last a b met stands inside. it.err now last a b (to now met) stands inside }
 
+    -- the same under a condition that implies it
     pub under : {X E : Type 0} {r : Result X E} (Q : Content → Type 0) → Saves g old new r P f → ((c : Content) → Q c → P c) → Saves g old new r Q f
     under {r = r} Q it to = restated r it to (λ c met. refl)
 

@@ -8,30 +8,36 @@ use Rattle.bsp_store_load.proofs.PlainRows.{plain_memo}
 use Rattle.bsp_store_load.specs.Formed.{AreFormed, IsFormedMemo}
 use Rattle.bsp_store_load.proofs.FormedContent.{memo_formed}
 use Rattle.bsp_store_load.proofs.RowReads.{found_none, none_found}
-use Rattle.bsp_store_rows.specs.MemoReading.{IsMemoIn}
-use Rattle.bsp_store_rows.proofs.MemoBack.{memo_seen}
+use Rattle.bsp_store_rows.specs.Reading.{HasValues}
 use Rattle.bsp_store_load.proofs.memos.StoredMemosStoredTableMemoKeyMemoTables.put.Goals as goal
 
 abbrev MayPut : MemoKey × MemoFields → Type 0
 MayPut e = IsMemoEntry e × (memo_key e.1 ≡ e.0) × (is_memo e.1 ≡ true)
 
-module _ (row : Row) (read : Option (MemoKey × MemoFields)) (e : MemoKey × MemoFields) (reads : IsMemoIn row read) (may : MayPut e) (is : row ≡ memo_row e) where
-  read_is : read ≡ Some e
-  read_is = memo_seen e.0 e.1 may.0 may.1 may.2 read (subst (λ r. IsMemoIn r read) is reads)
+-- what is read of the row of an entry is its memo
+module _ (row : Row) (read : Option MemoFields) (e : MemoKey × MemoFields) (reads : (memo : MemoFields) → IsMemoEntry (memo_key memo, memo) → is_memo memo ≡ true → HasValues row 0 (memo_row (memo_key memo, memo)) → read ≡ Some memo)
+    (may : MayPut e) (is : row ≡ memo_row e) where
+  row_is : row ≡ memo_row (memo_key e.1, e.1)
+  row_is = is ∙ ap (λ k. memo_row (k, e.1)) (sym may.1)
+
+  read_is : read ≡ Some e.1
+  read_is =
+      let has : HasValues (memo_row (memo_key e.1, e.1)) 0 (memo_row (memo_key e.1, e.1)) = search in
+      reads e.1 (subst (λ k. IsMemoEntry (k, e.1)) (sym may.1) may.0) may.2 (subst (λ r. HasValues r 0 (memo_row (memo_key e.1, e.1))) (sym row_is) has)
 
   -- it does not read as nothing
   memo_none : read ≡ None → ⊥
   memo_none none = let some = read_is in cc (some, none)
 
-  memo_same : (key : MemoKey) (memo : MemoFields) → read ≡ Some (key, memo) → memo ≡ e.1
-  memo_same key memo some = ap (λ (p : MemoKey × MemoFields). p.1) (same_Some (key, memo) e (sym some ∙ read_is))
+  memo_same : (memo : MemoFields) → read ≡ Some memo → memo ≡ e.1
+  memo_same memo some = same_Some memo e.1 (sym some ∙ read_is)
 
 pub returns-in_default-clause-entry : goal.returns-in_default-clause-entry
-returns-in_default-clause-entry c = λ e fits lacks is. absurd (memo_none c.args.row.now c.read_memo.result e c.read_memo.ensures fits is c.in_default.is)
+returns-in_default-clause-entry c = λ e fits lacks is. absurd (memo_none c.args.row.now c.read_memo.result e c.read_memo.ensures.back fits is c.in_default.is)
 
 pub returns-then-not-is_row-clause-entry : goal.returns-then-not-is_row-clause-entry
 returns-then-not-is_row-clause-entry c = λ e fits lacks is.
-    let same = memo_same c.args.row.now c.read_memo.result e c.read_memo.ensures fits is c.in-Some.field-0-0 c.in-Some.memo c.in-Some.is in
+    let same = memo_same c.args.row.now c.read_memo.result e c.read_memo.ensures.back fits is c.in-Some.memo c.in-Some.is in
     let key : c.of-key.result ≡ memo_key c.in-Some.memo = search rules in
     let texts : bound c.values.result ≡ memo_row (c.of-key.result, c.in-Some.memo) = search rules in
     let own : c.args.row.now ≡ memo_row (c.of-key.result, c.in-Some.memo) = is ∙ (λ i. memo_row (sym (key ∙ ap memo_key same ∙ lacks.0) i, sym same i)) in
@@ -40,7 +46,7 @@ returns-then-not-is_row-clause-entry c = λ e fits lacks is.
 
 pub returns-then-is_some-clause-entry : goal.returns-then-is_some-clause-entry
 returns-then-is_some-clause-entry c = λ e fits lacks is.
-    let same = memo_same c.args.row.now c.read_memo.result e c.read_memo.ensures fits is c.in-Some.field-0-0 c.in-Some.memo c.in-Some.is in
+    let same = memo_same c.args.row.now c.read_memo.result e c.read_memo.ensures.back fits is c.in-Some.memo c.in-Some.is in
     let key : c.of-key.result ≡ memo_key c.in-Some.memo = search rules in
     absurd (none_found c.memo.result c.is_some.result c.is_some.ensures c.if-is_some.true (c.memo.ensures ∙ ap (λ k. get (rows_of c.args.tables.now).memos k) (key ∙ ap memo_key same ∙ lacks.0) ∙ lacks.1))
 
@@ -54,7 +60,7 @@ returns-clause-row c = λ t.
 
 pub returns-clause-entry : goal.returns-clause-entry
 returns-clause-entry c = λ e fits lacks is.
-    let same = memo_same c.args.row.now c.read_memo.result e c.read_memo.ensures fits is c.in-Some.field-0-0 c.in-Some.memo c.in-Some.is in
+    let same = memo_same c.args.row.now c.read_memo.result e c.read_memo.ensures.back fits is c.in-Some.memo c.in-Some.is in
     let put : rows_of c.put_memo.new.self ≡ with_memo c.in-Some.memo (rows_of c.args.tables.now) = search rules in
     (refl, c.commit.ensures.rows ∙ put ∙ ap (λ m. with_memo m (rows_of c.args.tables.now)) same)
 
