@@ -6,13 +6,13 @@ ghost use Rattle.bsp_connection.specs.Exchanges.{does};
 ghost use Rattle.bsp_connection.specs.Outputs.{HasOutput};
 ghost use Rattle.bsp_connection.specs.Progress.{IsOn};
 ghost use Rattle.bsp_connection.specs.Talks.{HasTaken, IsFresh, IsSame, IsSent, Rests, Talks};
-ghost use Rattle.bsp_peers.specs.Talks.{HasAsked, HasGot, HasSent, IsSame as IsAsItWas, IsTalk};
+ghost use Rattle.bsp_streams.specs.Talks.{HasAsked, HasGot, HasSent, IsSame as IsAsItWas, IsTalk};
 
 use crate::answering::go_on;
 use crate::connection::Connection;
 use crate::service::Service;
 use bsp_fields::NoRoom;
-use bsp_peers::{Protocol, State};
+use bsp_streams::{Protocol, State};
 use std::alloc::Global;
 
 /// HTTP/1.1 over a service that answers its messages.

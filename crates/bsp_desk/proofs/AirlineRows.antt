@@ -4,7 +4,7 @@ use Rattle.std.specs.List.{filter}
 use Rattle.std.specs.FinMap.{values}
 use Rattle.bsp_rows.specs.Owed.{is_billed_in}
 use Rattle.bsp_rows.specs.MemoFields.{MemoFields}
-use Rattle.bsp_postings.proofs.ListLemmas.{filter_filter}
+use Rattle.bsp_statement.proofs.ListLemmas.{filter_filter}
 use Rattle.bsp_rows.specs.Part.{airline_part}
 use Rattle.bsp_rows.specs.Rows.{Rows, airline_memos, is_in, items_of, memos_of}
 use Rattle.bsp_rows.specs.declared.keys.MemoKey.{MemoKey}

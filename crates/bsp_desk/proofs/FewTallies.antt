@@ -9,9 +9,9 @@ use Rattle.std.proofs.lemmas.Map.Made.{IsDistinct-from_AllPairs}
 use Rattle.std.proofs.lemmas.Map.Steps.{length-le_from_distinct_below}
 use Rattle.std.proofs.lemmas.Map.Views.{Contains-from_any}
 use Rattle.bsp_rows.proofs.ListLemmas.{filter_holds}
-use Rattle.bsp_postings.specs.Sides.{AreOnce}
-use Rattle.bsp_postings.specs.Tallies.{no_tally, same_key}
-use Rattle.bsp_postings.specs.declared.tally.Tally.{Tally}
+use Rattle.bsp_statement.specs.Sides.{AreOnce}
+use Rattle.bsp_statement.specs.Tallies.{no_tally, same_key}
+use Rattle.bsp_statement.specs.declared.tally.Tally.{Tally}
 use Rattle.bsp_rows.proofs.AskedTallies.{asked_tallies}
 use Rattle.bsp_rows.proofs.RowLemmas.{contains_map}
 use Rattle.bsp_rows.specs.Rows.{Rows}

@@ -4,7 +4,7 @@ use Rattle.std.specs.List.{filter}
 use Rattle.std.proofs.lemmas.Bool.{eqb-true}
 use Rattle.std.proofs.lemmas.List.Elements.{filter_agree}
 use Rattle.bsp_rows.specs.Requests.{once}
-use Rattle.bsp_postings.proofs.ListLemmas.{filter_filter}
+use Rattle.bsp_statement.proofs.ListLemmas.{filter_filter}
 use Rattle.bsp_desk_sales.specs.Ledger.{same_number}
 
 -- ---- each once among those that pass

@@ -5,9 +5,9 @@ use Rattle.std.specs.FinMap.{values}
 use Rattle.std.proofs.lemmas.List.Elements.{filter_agree, filter-append}
 use Rattle.bsp_rows.specs.Owed.{is_billed_in, is_period}
 use Rattle.bsp_rows.specs.MemoFields.{MemoFields}
-use Rattle.bsp_postings.proofs.ListLemmas.{filter_filter}
-use Rattle.bsp_postings.specs.Postings.{is_counted, is_document, is_of_agent, item_posting, item_postings, memo_posting, memo_postings, of_agent, postings}
-use Rattle.bsp_postings.specs.declared.posting.Posting.{Posting}
+use Rattle.bsp_statement.proofs.ListLemmas.{filter_filter}
+use Rattle.bsp_statement.specs.Postings.{is_counted, is_document, is_of_agent, item_posting, item_postings, memo_posting, memo_postings, of_agent, postings}
+use Rattle.bsp_statement.specs.declared.posting.Posting.{Posting}
 use Rattle.bsp_rows.specs.Laws.{is_billing_asked, is_item_asked}
 use Rattle.bsp_rows.specs.Part.{agent_part}
 use Rattle.bsp_rows.specs.Rows.{Rows}

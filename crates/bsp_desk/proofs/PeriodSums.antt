@@ -13,13 +13,13 @@ use Rattle.bsp_rows.specs.MemoFields.{MemoFields}
 use Rattle.bsp_messages.specs.Values.{period_in}
 use Rattle.bsp_messages.specs.declared.answer.Answer.TheVariants as message
 use Rattle.bsp_messages.specs.declared.answer.PeriodShown.{PeriodShown}
-use Rattle.bsp_postings.proofs.ListLemmas.{filter_all}
-use Rattle.bsp_postings.proofs.SideLemmas.{all_net}
-use Rattle.bsp_postings.specs.Nets.{net_of_rows}
-use Rattle.bsp_postings.specs.Postings.{is_counted, item_posting, item_postings, memo_posting, memo_postings, postings}
-use Rattle.bsp_postings.specs.Tallies.{AreTallies, is_under, tally_postings}
-use Rattle.bsp_postings.specs.declared.posting.Posting.{Posting}
-use Rattle.bsp_postings.specs.declared.tally.Tally.{Tally}
+use Rattle.bsp_statement.proofs.ListLemmas.{filter_all}
+use Rattle.bsp_statement.proofs.SideLemmas.{all_net}
+use Rattle.bsp_statement.specs.Nets.{net_of_rows}
+use Rattle.bsp_statement.specs.Postings.{is_counted, item_posting, item_postings, memo_posting, memo_postings, postings}
+use Rattle.bsp_statement.specs.Tallies.{AreTallies, is_under, tally_postings}
+use Rattle.bsp_statement.specs.declared.posting.Posting.{Posting}
+use Rattle.bsp_statement.specs.declared.tally.Tally.{Tally}
 use Rattle.bsp_rows.proofs.AskedTallies.{asked_tallies}
 use Rattle.bsp_rows.proofs.MapLemmas.{same_Some}
 use Rattle.bsp_rows.specs.Rows.{Rows}
@@ -27,7 +27,7 @@ use Rattle.bsp_rows.specs.Sound.{Sound}
 use Rattle.bsp_rows.specs.Tallies.{tallies_of}
 use Rattle.bsp_rows.specs.declared.questions.Tallies.TheVariants.{OfAgentIn}
 use Rattle.bsp_rules.specs.declared.rows.Item.{Item}
-use Rattle.bsp_statement.proofs.TallyLemmas.{own_figures}
+use Rattle.bsp_statement.proofs.TallyFigures.{own_figures}
 use Rattle.bsp_statement.specs.Sums.{figures_of}
 use Rattle.bsp_desk_sales.specs.Ledger.{ledger_answer, ledger_of, period_answer, period_shown}
 use Rattle.bsp_desk_sales.specs.Requests.AgentRequest.{AskPeriod}

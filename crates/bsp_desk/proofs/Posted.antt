@@ -5,12 +5,12 @@ use Rattle.std.specs.List.{filter, sum_by}
 use Rattle.std.proofs.lemmas.List.{map-append}
 use Rattle.std.proofs.lemmas.List.Elements.{filter_more}
 use Rattle.std.proofs.lemmas.List.Sums.{sum_by-append}
-use Rattle.bsp_postings.proofs.NetLemmas.{net_is_sum, net_of_posting}
-use Rattle.bsp_postings.proofs.SumLemmas.{add_zero, sums, sums-append, sums-cons}
-use Rattle.bsp_postings.specs.Nets.{net_of_postings}
-use Rattle.bsp_postings.specs.Tallies.{is_used, tally_posting, tally_postings}
-use Rattle.bsp_postings.specs.declared.posting.Posting.{Posting}
-use Rattle.bsp_postings.specs.declared.tally.Tally.{Tally}
+use Rattle.bsp_statement.proofs.NetLemmas.{net_is_sum, net_of_posting}
+use Rattle.bsp_statement.proofs.SumLemmas.{add_zero, sums, sums-append, sums-cons}
+use Rattle.bsp_statement.specs.Nets.{net_of_postings}
+use Rattle.bsp_statement.specs.Tallies.{is_used, tally_posting, tally_postings}
+use Rattle.bsp_statement.specs.declared.posting.Posting.{Posting}
+use Rattle.bsp_statement.specs.declared.tally.Tally.{Tally}
 
 append_none : {X : Type 0} (xs : List X) → xs ++ [] ≡ xs
 append_none [] = refl

@@ -32,8 +32,8 @@ use Rattle.bsp_desk.proofs.AirlineRows.{bearing_items, billed_memos}
 use Rattle.bsp_messages.specs.Values.{period_in}
 use Rattle.bsp_messages.specs.declared.answer.Answer.TheVariants as message
 use Rattle.bsp_messages.specs.declared.refusal.RequestRefusal.TheVariants.{HotTooLarge}
-use Rattle.bsp_postings.specs.Postings.{of_agent, postings}
-use Rattle.bsp_postings.specs.declared.posting.Posting.{Posting}
+use Rattle.bsp_statement.specs.Postings.{of_agent, postings}
+use Rattle.bsp_statement.specs.declared.posting.Posting.{Posting}
 use Rattle.bsp_rows.specs.Rows.{Rows}
 use Rattle.bsp_rows.specs.Sound.{Sound}
 use Rattle.bsp_rows.specs.declared.questions.Tallies.TheVariants.{In, OfAgentIn}

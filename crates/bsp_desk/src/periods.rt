@@ -2,17 +2,17 @@
 
 ghost use Rattle.std.specs.Prelude.{◌≡◌, ◌<◌, ◌≤◌, ◌^◌, false, All, length, map};
 ghost use Rattle.std.specs.List.{sum_by};
-ghost use Rattle.bsp_postings.specs.Nets.{net_of_postings};
-ghost use Rattle.bsp_postings.specs.Sides.{AreOnce};
-ghost use Rattle.bsp_postings.specs.Tallies.{tally_posting, tally_postings};
+ghost use Rattle.bsp_statement.specs.Nets.{net_of_postings};
+ghost use Rattle.bsp_statement.specs.Sides.{AreOnce};
+ghost use Rattle.bsp_statement.specs.Tallies.{tally_posting, tally_postings};
 ghost use Rattle.bsp_desk.specs.Sums.{shown_over};
 ghost use Rattle.bsp_desk_sales.specs.Serves.{EndsOnFault, ServesAgent};
 ghost use Rattle.bsp_desk_sales.specs.Requests.AgentRequest.{AskPeriod};
 
 use bsp_book::{Book, BookFault};
 use bsp_messages::{Answer, PeriodShown, RequestRefusal};
-use bsp_postings::{Posting, Tally};
 use bsp_rows::{AgentCode, PeriodCode, Tallies};
+use bsp_statement::{Posting, Tally};
 
 /// What a tally posts. Its airline's code has three digits.
 fn posting_of(tally: Tally) -> Posting

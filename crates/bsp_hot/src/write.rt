@@ -24,8 +24,8 @@ use bsp_calendar::{Currency, Period, Plan};
 use bsp_fields::{AirlineCode, PeriodCode};
 use bsp_hot_check::FileForm;
 use bsp_memos::Memo;
-use bsp_postings::Tally;
 use bsp_rules::Item;
+use bsp_statement::Tally;
 use std::alloc::Global;
 
 impl FileFacts {

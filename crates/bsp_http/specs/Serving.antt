@@ -3,8 +3,8 @@ use Rattle.std.specs.Prelude.{ℕ}
 use Rattle.bsp_connection.specs.Exchanges.{Meaning, does}
 use Rattle.bsp_desk.specs.declared.desk.Desk.{Desk}
 use Rattle.bsp_connection.specs.Talks.{Rests, Talks}
-use Rattle.bsp_peers.specs.Events.{Event}
-use Rattle.bsp_peers.specs.Serving.{Served}
+use Rattle.bsp_streams.specs.Events.{Event}
+use Rattle.bsp_streams.specs.Serving.{Served}
 use Rattle.bsp_http.specs.Bodies.{at_routes}
 
 -- all connections of HTTP over a service that finds and answers so

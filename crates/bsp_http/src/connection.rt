@@ -14,9 +14,8 @@ use crate::journal::Journal;
 use crate::office::Office;
 use bsp_connection::{Http, ServeFault, Served};
 use bsp_desk::{Book, Desk};
-use bsp_peers::{Limits, Peers};
 use bsp_routes::Routes;
-use bsp_streams::Noted;
+use bsp_streams::{Limits, Noted, Peers};
 use std::alloc::Global;
 use std::io::{Read, Write};
 
@@ -85,5 +84,5 @@ pub fn serve_all<P: Peers, B: Book, J: Journal<B>>(
         alloc,
         service: &office,
     };
-    bsp_peers::serve_all(alloc, peers, limits, &protocol, desk)
+    bsp_streams::serve_all(alloc, peers, limits, &protocol, desk)
 }

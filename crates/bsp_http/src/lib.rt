@@ -13,9 +13,8 @@ mod laws;
 mod office;
 
 pub use bsp_connection::{End, Message, ServeFault, Served};
-pub use bsp_peers::{Awaited, Ending, Happened, Limits, Moved, Peers};
 pub use bsp_routes::{Reply, Routes, Status};
-pub use bsp_streams::Noted;
+pub use bsp_streams::{Awaited, Ending, Happened, Limits, Moved, Noted, Peers};
 pub use connection::{serve, serve_all};
 pub use journal::{Journal, NoJournal};
 pub use laws::{messages_are_read, messages_are_run};

@@ -5,11 +5,11 @@ use Rattle.std.proofs.lemmas.List.{map_push, take_all, take_more}
 use Rattle.std.proofs.lemmas.List.Sums.{fold-append}
 use Rattle.bsp_rules.specs.Amounts.{sum_of}
 use Rattle.bsp_rules.specs.declared.verdict.Verdict.{Verdict}
-use Rattle.bsp_postings.proofs.NetLemmas.{net_is_sum, net_of_posting}
-use Rattle.bsp_postings.specs.Nets.{net_of_postings}
-use Rattle.bsp_postings.specs.Tallies.{tally_posting}
-use Rattle.bsp_postings.specs.declared.posting.Posting.{Posting}
-use Rattle.bsp_postings.specs.declared.tally.Tally.{Tally}
+use Rattle.bsp_statement.proofs.NetLemmas.{net_is_sum, net_of_posting}
+use Rattle.bsp_statement.specs.Nets.{net_of_postings}
+use Rattle.bsp_statement.specs.Tallies.{tally_posting}
+use Rattle.bsp_statement.specs.declared.posting.Posting.{Posting}
+use Rattle.bsp_statement.specs.declared.tally.Tally.{Tally}
 use Rattle.bsp_rows.specs.Rows.{Rows}
 use Rattle.bsp_rows.specs.Tallies.{tallies_of}
 use Rattle.bsp_rows.specs.declared.questions.Tallies.TheVariants.{OfAgent}

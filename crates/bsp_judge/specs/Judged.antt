@@ -8,8 +8,8 @@ use Rattle.bsp_rows.specs.Transaction.{Transaction}
 use Rattle.bsp_rules.specs.Refusals.{code_text}
 use Rattle.bsp_rules.specs.declared.verdict.Verdict.{Verdict}
 use Rattle.bsp_rules.specs.declared.verdict.Verdict.TheVariants.{Accepted, Held, Refused}
-use Rattle.bsp_postings.specs.Nets.{net_of_postings}
-use Rattle.bsp_postings.specs.Tallies.{tally_posting}
+use Rattle.bsp_statement.specs.Nets.{net_of_postings}
+use Rattle.bsp_statement.specs.Tallies.{tally_posting}
 use Rattle.bsp_rows.specs.Rows.{Rows, no_rows}
 use Rattle.bsp_rows.specs.Tallies.{tallies_of}
 use Rattle.bsp_rows.specs.declared.questions.Tallies.TheVariants.{OfAgent}

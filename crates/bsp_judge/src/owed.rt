@@ -1,8 +1,8 @@
 //! What an agent owes over all periods.
 
 ghost use Rattle.std.specs.Prelude.{◌≡◌, ◌≤◌, ◌^◌, IfOk, IsOkUnless, Option, length, map, unsigned_abs};
-ghost use Rattle.bsp_postings.specs.Nets.{net_of_postings};
-ghost use Rattle.bsp_postings.specs.Tallies.{tally_posting};
+ghost use Rattle.bsp_statement.specs.Nets.{net_of_postings};
+ghost use Rattle.bsp_statement.specs.Tallies.{tally_posting};
 ghost use Rattle.bsp_rows.specs.Rows.{Rows};
 ghost use Rattle.bsp_book.specs.Listed.{meaning};
 ghost use Rattle.bsp_judge.specs.Judged.{owed};
@@ -10,8 +10,8 @@ ghost use Rattle.bsp_judge.specs.Judged.{owed};
 use crate::setup::JudgeFault;
 use bsp_book::ListBook;
 use bsp_fields::AgentCode;
-use bsp_postings::Tally;
 use bsp_rows::Tallies;
+use bsp_statement::Tally;
 use std::alloc::Global;
 
 /// The net of tallies, in minor units. That of all that a memory holds fits.

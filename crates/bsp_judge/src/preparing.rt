@@ -8,10 +8,10 @@ ghost use Rattle.bsp_judge.specs.Unjudged.{IsStopIn, IsStopOf};
 ghost use Rattle.bsp_judge.specs.declared.setup.Step.TheVariants as step;
 
 use crate::asking::{change, report};
+use crate::remarks::{Known, remarks_on};
 use crate::setup::{Earlier, JudgeFault, Setup, Step};
 use bsp_book::ListBook;
 use bsp_desk::{Desk, Instruction, Token};
-use bsp_remarks::{Known, remarks_on};
 use bsp_ret::{FaultCode, RetFile, read_ret};
 use bsp_rules::Verdict;
 use std::alloc::Global;

@@ -1,9 +1,9 @@
 //! What a RET file is judged over, and why it is not judged.
 
+use crate::remarks::Known;
 use bsp_book::ListBook;
 use bsp_fields::{AgentCode, Day, PeriodCode};
 use bsp_messages::RequestRefusal;
-use bsp_remarks::Known;
 use bsp_ret::RetFault;
 use bsp_rules::Range;
 

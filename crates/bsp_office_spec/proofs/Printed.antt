@@ -12,7 +12,7 @@ use Rattle.bsp_rows.specs.Published.{Published, closed_period, is_closed, is_tax
 use Rattle.bsp_rows.specs.Rows.{Rows}
 use Rattle.bsp_rows.specs.Sound.{Sound}
 use Rattle.bsp_rows.proofs.SideLemmas.{agents_side, airlines_side, all_net}
-use Rattle.bsp_postings.proofs.NetLemmas.{agent_net_is, airline_net_is}
+use Rattle.bsp_statement.proofs.NetLemmas.{agent_net_is, airline_net_is}
 use Rattle.bsp_hot.specs.Files.{form_of}
 use Rattle.bsp_hot.specs.Lines.{line_of}
 use Rattle.bsp_hot_check.specs.Hot.{File, all_but_last, file_sums, totals_of_file}

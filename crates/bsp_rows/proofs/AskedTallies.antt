@@ -14,12 +14,12 @@ use Rattle.bsp_rules.specs.Rows.{is_canx}
 use Rattle.bsp_rules.specs.declared.rows.Item.{Item}
 use Rattle.bsp_memos.specs.declared.fields.MemoFields.{MemoFields}
 use Rattle.bsp_memos.specs.Owed.{is_billed_in, is_period}
-use Rattle.bsp_postings.proofs.ListLemmas.{filter_filter}
-use Rattle.bsp_postings.specs.Postings.{is_counted, is_document, item_posting, item_postings, memo_posting, memo_postings, postings}
-use Rattle.bsp_postings.specs.Tallies.{IsTallyOf, is_item_under, is_under, items_under, same_key as same_tally, under}
-use Rattle.bsp_postings.specs.Nets.{cash_of, commission_of, credit_of, memos_of, tax_of}
-use Rattle.bsp_postings.specs.declared.posting.Posting.{Posting}
-use Rattle.bsp_postings.specs.declared.tally.Tally.{Tally}
+use Rattle.bsp_statement.proofs.ListLemmas.{filter_filter}
+use Rattle.bsp_statement.specs.Postings.{is_counted, is_document, item_posting, item_postings, memo_posting, memo_postings, postings}
+use Rattle.bsp_statement.specs.Tallies.{IsTallyOf, is_item_under, is_under, items_under, same_key as same_tally, under}
+use Rattle.bsp_statement.specs.Nets.{cash_of, commission_of, credit_of, memos_of, tax_of}
+use Rattle.bsp_statement.specs.declared.posting.Posting.{Posting}
+use Rattle.bsp_statement.specs.declared.tally.Tally.{Tally}
 use Rattle.bsp_rows.specs.Laws.{AskedAreTallies, is_billing_asked, is_item_asked, is_key_asked}
 use Rattle.bsp_rows.specs.Rows.{Rows}
 use Rattle.bsp_rows.specs.Tallies.{item_tally_key, is_tally_asked, key_tally, memo_tally_key, rising_keys, tallies_of, tally_cmp, tally_of, used_keys}

@@ -13,7 +13,7 @@ use Rattle.bsp_rules.specs.FactsOf.{facts_in, count_in, counts}
 use Rattle.bsp_rules.specs.Selected.{selected, without_count}
 use Rattle.bsp_rules.proofs.SelectedLemmas.{facts_selected}
 use Rattle.bsp_memos.specs.declared.fields.MemoFields.{MemoFields}
-use Rattle.bsp_postings.specs.Tallies.{is_item_under}
+use Rattle.bsp_statement.specs.Tallies.{is_item_under}
 use Rattle.bsp_rows.specs.declared.keys.ItemKey.{ItemKey}
 use Rattle.bsp_rows.specs.declared.keys.MemoKey.{MemoKey}
 use Rattle.bsp_rows.specs.declared.keys.TallyKey.{TallyKey}

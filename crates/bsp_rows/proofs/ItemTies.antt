@@ -22,7 +22,7 @@ use Rattle.bsp_rules.specs.Verdicts.{limit_of}
 use Rattle.bsp_rules.specs.SameContent.{same_code}
 use Rattle.bsp_ret_records.specs.declared.codes.TransactionCode.TheVariants.{Tktt}
 use Rattle.bsp_rules.specs.declared.rows.Item.{Item}
-use Rattle.bsp_postings.specs.Tallies.{is_item_under}
+use Rattle.bsp_statement.specs.Tallies.{is_item_under}
 use Rattle.bsp_rows.specs.Audit.{AreItemsAudited, AreWithin, EachItem, IsTiedItem, as_map, is_living_sale, relation_by, relation_cmp, relation_in, relations_of}
 use Rattle.bsp_rows.specs.Rows.{canx_of, item_cmp, range_cmp}
 use Rattle.bsp_rows.specs.Sound.{AreSoundItems, AreSoundRanges, HasTicket, IsRight, is_counted, ticket_key}

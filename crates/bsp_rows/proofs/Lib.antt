@@ -40,9 +40,9 @@ pub use Rattle.bsp_fields.proofs.DecimalLemmas
 pub use Rattle.bsp_fields.proofs.DocumentLemmas
 pub use Rattle.bsp_memos.proofs.KeptLemmas as MemosKeptLemmas
 pub use Rattle.bsp_memos.proofs.StepLemmas
-pub use Rattle.bsp_postings.proofs.RemovalLemmas
-pub use Rattle.bsp_postings.proofs.SideLemmas
-pub use Rattle.bsp_postings.proofs.TallyLemmas
+pub use Rattle.bsp_statement.proofs.RemovalLemmas
+pub use Rattle.bsp_statement.proofs.SideLemmas
+pub use Rattle.bsp_statement.proofs.TallyLemmas
 pub use Rattle.bsp_ret_records.proofs.DigitLemmas
 pub use Rattle.bsp_ret_records.proofs.OrderLemmas
 pub use Rattle.bsp_ret_records.proofs.ReadLemmas

@@ -8,7 +8,7 @@ use Rattle.bsp_rules.specs.Selected.{selected}
 use Rattle.bsp_rules.specs.declared.rows.Item.{Item}
 use Rattle.bsp_memos.specs.declared.fields.MemoFields.{MemoFields}
 use Rattle.bsp_memos.specs.Owed.{is_billed_in}
-use Rattle.bsp_postings.proofs.ListLemmas.{filter_filter}
+use Rattle.bsp_statement.proofs.ListLemmas.{filter_filter}
 use Rattle.bsp_rows.specs.Laws.{AgentPartIsEnough, AirlinePartIsEnough}
 use Rattle.bsp_rows.specs.Part.{AgentPart, AirlinePart, agent_part, airline_part, kept}
 use Rattle.bsp_rows.specs.Rows.{Rows, agent_items, airline_memos, is_in, is_of_airline, range_of, ranges_of}

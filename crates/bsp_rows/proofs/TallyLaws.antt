@@ -7,10 +7,10 @@ use Rattle.std.proofs.lemmas.List.Sums.{sum_by-append, sum_by-cons}
 use Rattle.bsp_rules.specs.declared.rows.Item.{Item}
 use Rattle.bsp_memos.specs.declared.fields.MemoFields.{MemoFields}
 use Rattle.bsp_memos.specs.Owed.{is_billed_in}
-use Rattle.bsp_postings.specs.Postings.{is_counted, item_posting, item_postings, memo_posting, memo_postings}
-use Rattle.bsp_postings.specs.Tallies.{IsTallyOf, is_memo_under, is_under, under}
-use Rattle.bsp_postings.specs.declared.posting.Posting.{Posting}
-use Rattle.bsp_postings.specs.declared.tally.Tally.{Tally}
+use Rattle.bsp_statement.specs.Postings.{is_counted, item_posting, item_postings, memo_posting, memo_postings}
+use Rattle.bsp_statement.specs.Tallies.{IsTallyOf, is_memo_under, is_under, under}
+use Rattle.bsp_statement.specs.declared.posting.Posting.{Posting}
+use Rattle.bsp_statement.specs.declared.tally.Tally.{Tally}
 use Rattle.bsp_rows.specs.Laws.{OneTally, TalliesAreSums}
 use Rattle.bsp_rows.specs.Tallies.{added_up, key_tally}
 use Rattle.bsp_rows.specs.declared.keys.TallyKey.{TallyKey}

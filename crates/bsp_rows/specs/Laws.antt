@@ -20,8 +20,8 @@ use Rattle.bsp_memos.specs.Memos.{is_amount, issued_memo}
 use Rattle.bsp_memos.specs.Steps.{Action}
 use Rattle.bsp_memos.specs.declared.fields.MemoFields.{MemoFields}
 use Rattle.bsp_memos.specs.declared.kind.MemoKind.{MemoKind}
-use Rattle.bsp_postings.specs.Tallies.{AreTallies, IsTallyOf}
-use Rattle.bsp_postings.specs.declared.tally.Tally.{Tally}
+use Rattle.bsp_statement.specs.Tallies.{AreTallies, IsTallyOf}
+use Rattle.bsp_statement.specs.declared.tally.Tally.{Tally}
 use Rattle.bsp_rows.specs.declared.keys.MemoKey.{MemoKey}
 use Rattle.bsp_rows.specs.declared.keys.TallyKey.{TallyKey}
 use Rattle.bsp_rows.specs.declared.questions.Items.TheVariants as item

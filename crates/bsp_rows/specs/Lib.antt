@@ -40,13 +40,13 @@ pub use Rattle.bsp_memos.specs.declared.fault.MemoFault
 pub use Rattle.bsp_memos.specs.declared.fields.MemoFields
 pub use Rattle.bsp_memos.specs.declared.kind.MemoKind
 pub use Rattle.bsp_memos.specs.declared.state.MemoState
-pub use Rattle.bsp_postings.specs.Nets
-pub use Rattle.bsp_postings.specs.Postings
-pub use Rattle.bsp_postings.specs.Removal
-pub use Rattle.bsp_postings.specs.Sides
-pub use Rattle.bsp_postings.specs.Tallies as PostingsTallies
-pub use Rattle.bsp_postings.specs.declared.posting.Posting
-pub use Rattle.bsp_postings.specs.declared.tally.Tally
+pub use Rattle.bsp_statement.specs.Nets
+pub use Rattle.bsp_statement.specs.Postings
+pub use Rattle.bsp_statement.specs.Removal
+pub use Rattle.bsp_statement.specs.Sides
+pub use Rattle.bsp_statement.specs.Tallies as PostingsTallies
+pub use Rattle.bsp_statement.specs.declared.posting.Posting
+pub use Rattle.bsp_statement.specs.declared.tally.Tally
 pub use Rattle.bsp_ret_records.specs.Columns
 pub use Rattle.bsp_ret_records.specs.Fields
 pub use Rattle.bsp_ret_records.specs.Lines

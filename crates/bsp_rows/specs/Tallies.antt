@@ -7,9 +7,9 @@ use Rattle.std.specs.FinMap.{keys, values, from_entries}
 use Rattle.bsp_rules.specs.declared.rows.Item.{Item}
 use Rattle.bsp_rules.specs.Rows.{is_canx}
 use Rattle.bsp_memos.specs.declared.fields.MemoFields.{MemoFields}
-use Rattle.bsp_postings.specs.declared.tally.Tally.{Tally}
-use Rattle.bsp_postings.specs.Tallies.{is_memo_under, items_under, no_tally, under}
-use Rattle.bsp_postings.specs.Nets.{cash_of, credit_of, commission_of, tax_of, memos_of}
+use Rattle.bsp_statement.specs.declared.tally.Tally.{Tally}
+use Rattle.bsp_statement.specs.Tallies.{is_memo_under, items_under, no_tally, under}
+use Rattle.bsp_statement.specs.Nets.{cash_of, credit_of, commission_of, tax_of, memos_of}
 use Rattle.bsp_rows.specs.declared.keys.TallyKey.{TallyKey}
 use Rattle.bsp_rows.specs.declared.questions.Tallies.{Tallies}
 use Rattle.bsp_rows.specs.declared.questions.Tallies.TheVariants.{OfAgent, OfAgentIn, OfAirlineIn, In}

@@ -18,11 +18,11 @@ pub use audit::are_sound;
 pub use bsp_calendar::{CommissionTax, Currency, Period, Plan, PlanFault, PlanText, Rate, Terms};
 pub use bsp_fields::{AgentCode, AirlineCode, Amount, Change, Day, DocNumber, PeriodCode, Token};
 pub use bsp_memos::{Memo, MemoFields, MemoKind, MemoState, Reason};
-pub use bsp_postings::Tally;
 pub use bsp_ret_records::{
     Amounts, CardPayment, ReportedDocument, Tax, Transaction, TransactionCode,
 };
 pub use bsp_rules::{Item, Range};
+pub use bsp_statement::Tally;
 pub use keys::{ItemKey, MemoKey, RangeKey, TallyKey};
 pub use laws::{facts_from_rows, parts_are_enough, sound_is_kept, tallies_are_sums};
 pub use questions::{Items, Memos, Tallies};

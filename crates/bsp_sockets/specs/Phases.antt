@@ -1,6 +1,6 @@
 -- What of a connection has a time.
 use Rattle.std.specs.Prelude.{◌≡◌, ◌≢◌, ◌<◌, Bool, true, false, Option, None, Some}
-use Rattle.bsp_peers.specs.declared.peers.Awaited.{Awaited}
+use Rattle.bsp_streams.specs.declared.peers.Awaited.{Awaited}
 use Rattle.bsp_sockets.specs.declared.phase.Begun.{Begun}
 use Rattle.bsp_sockets.specs.declared.phase.Stage.TheVariants.{Filling}
 use Rattle.bsp_sockets.specs.declared.phase.Traffic.{Traffic}

@@ -8,7 +8,7 @@ use crate::time::Time;
 use crate::times::Times;
 use crate::turns::Turns;
 use crate::watched::{Dropped, Watched};
-use bsp_peers::{Awaited, Happened};
+use bsp_streams::{Awaited, Happened};
 use mio::Registry;
 use mio::event::Event;
 use mio::net::TcpStream;

@@ -10,7 +10,7 @@ ghost use Rattle.std.specs.Time.{instant_nanos};
 ghost use Rattle.bsp_sockets.specs.Phases.{IsAgain, IsStill};
 
 use crate::limits::is_over;
-use bsp_peers::Awaited;
+use bsp_streams::Awaited;
 use std::time::{Duration, Instant};
 
 /// The bytes that a peer must take within twice the time: half of what one reads within the time, since what it reads is

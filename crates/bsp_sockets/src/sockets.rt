@@ -4,7 +4,7 @@ use crate::connections::Connections;
 use crate::door::{Door, LISTENER};
 use crate::limits::{Limits, earlier};
 use crate::time::Time;
-use bsp_peers::{Awaited, Ending, Happened, Moved, Peers};
+use bsp_streams::{Awaited, Ending, Happened, Moved, Peers};
 use mio::net::TcpListener;
 use mio::{Events, Poll};
 use std::alloc::Global;

@@ -1,11 +1,11 @@
 //! One connection that is watched.
 
 ghost use Rattle.std.specs.Prelude.{◌≡◌, ◌≢◌, ◌↔◌, ◌<◌, ℕ, List, length, true, false, IsTrue};
-ghost use Rattle.bsp_peers.specs.declared.peers.Moved.TheVariants.{Bytes};
-ghost use Rattle.bsp_peers.specs.Bounds.{MovesAtMost};
+ghost use Rattle.bsp_streams.specs.declared.peers.Moved.TheVariants.{Bytes};
+ghost use Rattle.bsp_streams.specs.Bounds.{MovesAtMost};
 
 use crate::phase::{Phase, Traffic};
-use bsp_peers::{Awaited, Moved};
+use bsp_streams::{Awaited, Moved};
 use mio::event::Event;
 use mio::net::TcpStream;
 use mio::{Interest, Registry, Token};

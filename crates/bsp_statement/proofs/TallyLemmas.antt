@@ -1,172 +1,253 @@
--- Where tallies are the sums of rows, their postings add up to what the rows' postings add up to.
-use Rattle.std.proofs.Common.{◌≡◌, ℕ, zero, suc, ◌+◌, ◌<◌, ◌==◌, refl, ap, subst, ◌∙◌, sym, inl, inr, Bool, true, false, ◌&&◌, ◌||◌, List, [], ◌∷◌, map, length, get_or, arith, cond}
-use Rattle.std.specs.Prelude.{ℤ, pos, ◌+ℤ◌, ◌-ℤ◌, nat_lt}
-use Rattle.std.specs.List.{filter, sum_by, Contains}
-use Rattle.std.proofs.lemmas.Bool.{cases_Bool, cond_both, eqb-true, eq-eqb, and_parts, and_from, or_left, or_right, or_cases, lt-ltb, ltb-true, true≢false}
+-- Tallies grow row by row.
+use Rattle.std.proofs.Common.{◌≡◌, ℕ, ◌+◌, ◌==◌, refl, ap, subst, ◌∙◌, sym, inl, inr, Bool, true, false, ◌&&◌, List, [], ◌∷◌, ◌++◌, map, length, arith, cond, IsPermutation}
+use Rattle.std.specs.Prelude.{ℤ, ◌+ℤ◌, count_by}
+use Rattle.std.specs.List.{filter, sum_by}
+use Rattle.std.specs.Cmp.Derive.{both_true}
+use Rattle.std.proofs.lemmas.Bool.{cases_Bool, and_parts, eqb-true}
+use Rattle.std.proofs.lemmas.Int.{ints}
+use Rattle.std.proofs.lemmas.List.Elements.{filter-append}
 use Rattle.std.proofs.lemmas.List.Sums.{sum_by-cons}
-use Rattle.std.proofs.lemmas.List.Elements.{All-contains}
+use Rattle.std.proofs.lemmas.List.Sorted.{sum_by-IsPermutation, length_permutation, IsPermutation-map, IsPermutation-refl, IsPermutation-middle}
+use Rattle.bsp_rules.specs.Rows.{is_canx}
+use Rattle.bsp_rules.specs.Nets.{lives_in}
 use Rattle.bsp_rules.specs.declared.rows.Item.{Item}
-use Rattle.bsp_postings.specs.declared.tally.Tally.{Tally}
 use Rattle.bsp_memos.specs.declared.fields.MemoFields.{MemoFields}
-use Rattle.bsp_postings.specs.declared.posting.Posting.{Posting}
-use Rattle.bsp_postings.specs.Postings.{postings}
-use Rattle.bsp_statement.specs.Sums.{figures_of}
-use Rattle.bsp_postings.specs.Tallies.{is_used, tally_posting, tally_postings, is_under, under, IsTallyOf, same_key, AreTallies}
-use Rattle.bsp_postings.proofs.ListLemmas.{contains_more, kept, keeps, filter_none}
-use Rattle.bsp_statement.proofs.RunningLemmas.{figures_same}
-use Rattle.bsp_postings.proofs.SumLemmas.{sums, sums-cons, sums_agree, sums-filter, sums-map, sums_nothing, sums_over, sums_agree_on, single}
+use Rattle.bsp_memos.specs.Owed.{is_billed_in}
+use Rattle.bsp_statement.specs.declared.posting.Posting.{Posting}
+use Rattle.bsp_statement.specs.declared.tally.Tally.{Tally}
+use Rattle.bsp_statement.specs.Postings.{is_counted, item_posting, memo_posting, item_postings, memo_postings, postings}
+use Rattle.bsp_statement.specs.Tallies.{IsTallyOf, counting, is_item_under, is_memo_under, is_under, is_used, items_under, no_tally, tally_posting, tally_postings, under, with_item, with_memo, with_posting}
+use Rattle.bsp_statement.proofs.SumLemmas.{sums, sums-cons}
+use Rattle.bsp_statement.proofs.Permutations.{IsPermutation-filter, postings_permuted, sums_permuted}
 
-masked : {R : Type 0} (f : R → ℤ) (b : Bool) (rows : List R) → sums (λ r. cond b (f r) (pos 0)) rows ≡ cond b (sums f rows) (pos 0)
-masked f true rows = refl
-masked f false rows = sums_nothing rows
+-- ---- one posting more
 
-documents_as_int : (rows : List Posting) → pos (sum_by (λ p. p.documents) rows) ≡ sums (λ p. pos p.documents) rows
-documents_as_int [] = refl
-documents_as_int (p ∷ rows) =
-    ap (λ (n : ℕ). pos n) (sum_by-cons (λ (q : Posting). q.documents) p rows)
-    ∙ ap (λ (n : ℤ). pos p.documents +ℤ n) (documents_as_int rows)
-    ∙ sym (sums-cons (λ (q : Posting). pos q.documents) p rows)
+-- the rows with one more, in some order
+abbrev pub IsMore : Posting → List Posting → List Posting → Type 0
+IsMore p rows more = IsPermutation more (p ∷ rows)
 
--- ---- filters
+sums_more : (f : Posting → ℤ) (p : Posting) (rows more : List Posting) (z : ℤ) → IsMore p rows more → z ≡ sums f rows → z +ℤ f p ≡ sums f more
+sums_more f p rows more z same is =
+    ap (λ (x : ℤ). x +ℤ f p) is ∙ turned (sums f rows) (f p) ∙ sym (sums-cons f p rows) ∙ sym (sums_permuted f more (p ∷ rows) same) where
+      turned : (x y : ℤ) → x +ℤ y ≡ y +ℤ x
+      turned x y = omega (arith, ints)
 
-some_passes : {X : Type 0} (test : X → Bool) (xs : List X) → 0 < length (filter test xs) → (x : X) × Contains xs x × (test x ≡ true)
-some_passes test [] more = absurd (omega (arith, more))
-some_passes {X} test (x ∷ xs) more = elim (cases_Bool (test x)) [
-  | inl passes ↦ (x, (0, omega arith, refl), passes)
-  | inr fails ↦
-      let found = some_passes test xs (subst (λ (b : Bool). 0 < length (cond b (x ∷ filter test xs) (filter test xs))) fails more) in
-      (found.0, contains_more x found.0 xs found.1, found.2)
-]
+documents_more : (p : Posting) (rows more : List Posting) (n : ℕ) → IsMore p rows more → n ≡ sum_by (λ q. q.documents) rows → n + p.documents ≡ sum_by (λ q. q.documents) more
+documents_more p rows more n same is =
+    let e = sum_by-IsPermutation (λ q. q.documents) more (p ∷ rows) same in
+    let h = sum_by-cons (λ q. q.documents) p rows in
+    omega (arith, is, e, h)
 
-length_passing : {X : Type 0} (test : X → Bool) (xs : List X) (x : X) → Contains xs x → test x ≡ true → 0 < length (filter test xs)
-length_passing test [] x (k, below, is) passes = absurd (omega (arith, below))
-length_passing test (y ∷ xs) x (zero, below, is) passes =
-    subst (λ (b : Bool). 0 < length (cond b (y ∷ filter test xs) (filter test xs))) (sym (ap test is ∙ passes)) (omega arith)
-length_passing test (y ∷ xs) x (suc k, below, is) passes =
-    let rest = length_passing test xs x (k, omega (arith, below), is) passes in
-    cond_both (test y) (y ∷ filter test xs) (filter test xs) (λ ys. 0 < length ys) (λ first. omega arith) (λ other. rest)
+length_more : (p : Posting) (rows more : List Posting) (n : ℕ) → IsMore p rows more → n ≡ length rows → n + 1 ≡ length more
+length_more p rows more n same is = let e = length_permutation more (p ∷ rows) same in omega (arith, is, e)
 
-some_used : (a b : ℕ) → 0 < a + b → (nat_lt 0 a || nat_lt 0 b) ≡ true
-some_used zero b more = or_right (nat_lt 0 0) (nat_lt 0 b) (lt-ltb 0 b (omega (arith, more)))
-some_used (suc a) b more = or_left (nat_lt 0 (suc a)) (nat_lt 0 b) (lt-ltb 0 (suc a) (omega arith))
+-- ---- an item more
 
-used_some : (a b : ℕ) → (nat_lt 0 a || nat_lt 0 b) ≡ true → 0 < a + b
-used_some a b is = elim (or_cases (nat_lt 0 a) (nat_lt 0 b) is) [
-  | inl first ↦ let more = ltb-true 0 a first in omega arith
-  | inr second ↦ let more = ltb-true 0 b second in omega arith
-]
+module _ (i : Item) (items : List Item) (memos : List MemoFields) (t : Tally) where
+  abbrev later : List Posting
+  later = memo_postings t.period memos
 
--- ---- tallies of rows
+  counted_postings : (b : Bool) → is_counted t.period i ≡ b → item_postings t.period (i ∷ items) ++ later ≡ map item_posting (cond b (i ∷ filter (is_counted t.period) items) (filter (is_counted t.period) items)) ++ later
+  counted_postings b is = ap (λ (c : Bool). map item_posting (cond c (i ∷ filter (is_counted t.period) items) (filter (is_counted t.period) items)) ++ later) is
 
-module _ (items : List Item) (memos : List MemoFields) (tallies : List Tally) (are : AreTallies items memos tallies) (period : ℕ) where
-  abbrev rows : List Posting
-  rows = postings period items memos
+  pub uncounted : is_counted t.period i ≡ false → under (i ∷ items) memos t ≡ under items memos t
+  uncounted is = ap (λ (rows : List Posting). filter (is_under t) rows) (counted_postings false is)
 
-  abbrev from_tallies : List Posting
-  from_tallies = tally_postings period tallies
+  pub posted : (b : Bool) → is_counted t.period i ≡ true → is_under t (item_posting i) ≡ b → under (i ∷ items) memos t ≡ cond b (item_posting i ∷ under items memos t) (under items memos t)
+  posted b counted is =
+      ap (λ (rows : List Posting). filter (is_under t) rows) (counted_postings true counted)
+      ∙ ap (λ (c : Bool). cond c (item_posting i ∷ under items memos t) (under items memos t)) is
 
-  in_period : (t : Tally) → is_used period t ≡ true → under items memos t ≡ filter (is_under t) rows
-  in_period t used =
-      let at : t.period ≡ period = eqb-true t.period period ((and_parts (t.period == period) (nat_lt 0 t.living || nat_lt 0 t.memo_count) used).0) in
-      ap (λ (q : ℕ). filter (is_under t) (postings q items memos)) at
+  pub taken : (b : Bool) → is_item_under t i ≡ b → items_under (i ∷ items) t ≡ cond b (i ∷ items_under items t) (items_under items t)
+  taken b is = ap (λ (c : Bool). cond c (i ∷ items_under items t) (items_under items t)) is
 
-  tally_is : (t : Tally) → Contains tallies t → IsTallyOf items memos t
-  tally_is t has = All-contains (IsTallyOf items memos) tallies t are.each has
+  other_postings : is_item_under t i ≡ false → under (i ∷ items) memos t ≡ under items memos t
+  other_postings other = elim (cases_Bool (is_counted t.period i)) [
+    | inl counted ↦ posted false counted (not_under (and_parts (lives_in t.period i) _ counted).0)
+    | inr not_counted ↦ uncounted not_counted
+  ] where
+    without : (a b c l : Bool) → (a && (b && c)) ≡ false → (l && c) ≡ true → (a && b) ≡ false
+    without true true true l is lives = is
+    without true true false true is lives = sym lives
+    without true true false false is lives = sym lives
+    without true false c l is lives = refl
+    without false b c l is lives = refl
 
-  used_at : (t : Tally) (p : Posting) → Contains tallies t → t.period ≡ period → Contains rows p → is_under t p ≡ true → is_used period t ≡ true
-  used_at t p has at row below =
-      let more : 0 < length (filter (is_under t) rows) = length_passing (is_under t) rows p row below in
-      let same : length (under items memos t) ≡ length (filter (is_under t) rows) = ap (λ (q : ℕ). length (filter (is_under t) (postings q items memos))) at in
-      let count = (tally_is t has).count in
-      and_from (t.period == period) (nat_lt 0 t.living || nat_lt 0 t.memo_count) (eq-eqb t.period period at) (some_used t.living t.memo_count (omega arith))
+    not_under : lives_in t.period i ≡ true → is_under t (item_posting i) ≡ false
+    not_under = without (i.agent == t.agent) (i.transaction.document.airline == t.airline) (i.period == t.period) i.lives other
 
-  one_key : (s t : Tally) (p : Posting) → (is_used period s && is_under s p) ≡ true → (is_used period t && is_under t p) ≡ true → same_key s t ≡ true
-  one_key s t p first second =
-      let s' = and_parts (is_used period s) (is_under s p) first in
-      let t' = and_parts (is_used period t) (is_under t p) second in
-      let s_key = and_parts (p.agent == s.agent) (p.airline == s.airline) s'.1 in
-      let t_key = and_parts (p.agent == t.agent) (p.airline == t.airline) t'.1 in
-      let agents : s.agent ≡ t.agent = sym (eqb-true p.agent s.agent s_key.0) ∙ eqb-true p.agent t.agent t_key.0 in
-      let airlines : s.airline ≡ t.airline = sym (eqb-true p.airline s.airline s_key.1) ∙ eqb-true p.airline t.airline t_key.1 in
-      let s_at : s.period ≡ period = eqb-true s.period period ((and_parts (s.period == period) (nat_lt 0 s.living || nat_lt 0 s.memo_count) s'.0).0) in
-      let t_at : t.period ≡ period = eqb-true t.period period ((and_parts (t.period == period) (nat_lt 0 t.living || nat_lt 0 t.memo_count) t'.0).0) in
-      and_from (s.agent == t.agent) ((s.airline == t.airline) && (s.period == t.period)) (eq-eqb s.agent t.agent agents)
-      (and_from (s.airline == t.airline) (s.period == t.period) (eq-eqb s.airline t.airline airlines) (eq-eqb s.period t.period (s_at ∙ sym t_at)))
+  pub other_item : is_item_under t i ≡ false → IsTallyOf items memos t → IsTallyOf (i ∷ items) memos t
+  other_item other s =
+      let same = sym (other_postings other) in
+      let taken_same = sym (taken false other) in
+      record {
+        accepted = s.accepted ∙ ap (λ (is : List Item). length is) taken_same;
+        canx = s.canx ∙ ap (λ (is : List Item). count_by is_canx is) taken_same;
+        living = s.living ∙ ap (λ (rows : List Posting). sum_by (λ p. p.documents) rows) same;
+        count = s.count ∙ ap (λ (rows : List Posting). length rows) same;
+        cash = s.cash ∙ ap (λ (rows : List Posting). sums (λ p. p.cash) rows) same;
+        credit = s.credit ∙ ap (λ (rows : List Posting). sums (λ p. p.credit) rows) same;
+        commission = s.commission ∙ ap (λ (rows : List Posting). sums (λ p. p.commission) rows) same;
+        tax = s.tax ∙ ap (λ (rows : List Posting). sums (λ p. p.tax) rows) same;
+        memos = s.memos ∙ ap (λ (rows : List Posting). sums (λ p. p.memos) rows) same;
+      }
 
-  once_at : (p : Posting) → Contains rows p → (v : ℤ) → sums (λ t. cond (is_used period t && is_under t p) v (pos 0)) tallies ≡ v
-  once_at p row v =
-      let found = are.whole period p row in
-      single (λ t. is_used period t && is_under t p) v tallies
-      (λ i j d less below first second. true≢false (sym (one_key (get_or tallies i d) (get_or tallies j d) p first second) ∙ are.once i j d less below))
-      found.0 found.1 (and_from (is_used period found.0) (is_under found.0 p) (used_at found.0 p found.1 found.2 row found.3) found.3)
+  accepted_more : is_item_under t i ≡ true → IsTallyOf items memos t → t.accepted + 1 ≡ length (items_under (i ∷ items) t)
+  accepted_more own s = let e = ap (λ (is : List Item). length is) (taken true own) in let h = s.accepted in omega (arith, e, h)
 
-  -- a test of agent and airline
-  module _ (own : Posting → Bool) (agrees : (t : Tally) (p : Posting) → is_under t p ≡ true → own p ≡ own (tally_posting t)) where
-    module _ (f : Posting → ℤ) (f_is : (t : Tally) → IsTallyOf items memos t → f (tally_posting t) ≡ sums f (under items memos t)) where
-      agree_at : (t : Tally) (p : Posting) → cond (is_under t p) (cond (own p) (f p) (pos 0)) (pos 0) ≡ cond (own (tally_posting t)) (cond (is_under t p) (f p) (pos 0)) (pos 0)
-      agree_at t p = by_under (is_under t p) (agrees t p) where
-        by_own : (b : Bool) → pos 0 ≡ cond b (pos 0) (pos 0)
-        by_own true = refl
-        by_own false = refl
+  canx_more : is_item_under t i ≡ true → IsTallyOf items memos t → t.canx + cond (is_canx i) 1 0 ≡ count_by is_canx (items_under (i ∷ items) t)
+  canx_more own s =
+      let e = ap (λ (is : List Item). count_by is_canx is) (taken true own) in
+      let h = s.canx in
+      let c = sum_by-cons (λ x. cond (is_canx x) 1 0) i (items_under items t) in
+      omega (arith, e, h, c)
 
-        by_under : (b : Bool) → (b ≡ true → own p ≡ own (tally_posting t)) → cond b (cond (own p) (f p) (pos 0)) (pos 0) ≡ cond (own (tally_posting t)) (cond b (f p) (pos 0)) (pos 0)
-        by_under true same = ap (λ (o : Bool). cond o (f p) (pos 0)) (same refl)
-        by_under false same = by_own (own (tally_posting t))
+  -- the item is counted, and its postings are what they were
+  counting_more : is_item_under t i ≡ true → under (i ∷ items) memos t ≡ under items memos t → IsTallyOf items memos t → IsTallyOf (i ∷ items) memos (counting i t)
+  counting_more own unposted s =
+      let same = sym unposted in
+      record {
+        accepted = accepted_more own s;
+        canx = canx_more own s;
+        living = s.living ∙ ap (λ (rows : List Posting). sum_by (λ p. p.documents) rows) same;
+        count = s.count ∙ ap (λ (rows : List Posting). length rows) same;
+        cash = s.cash ∙ ap (λ (rows : List Posting). sums (λ p. p.cash) rows) same;
+        credit = s.credit ∙ ap (λ (rows : List Posting). sums (λ p. p.credit) rows) same;
+        commission = s.commission ∙ ap (λ (rows : List Posting). sums (λ p. p.commission) rows) same;
+        tax = s.tax ∙ ap (λ (rows : List Posting). sums (λ p. p.tax) rows) same;
+        memos = s.memos ∙ ap (λ (rows : List Posting). sums (λ p. p.memos) rows) same;
+      }
 
-      at_used : (t : Tally) → IsTallyOf items memos t → is_used period t ≡ true → cond (own (tally_posting t)) (f (tally_posting t)) (pos 0) ≡ sums (λ p. cond (own p) (f p) (pos 0)) (filter (is_under t) rows)
-      at_used t is used =
-          ap (λ (n : ℤ). cond (own (tally_posting t)) n (pos 0)) (f_is t is ∙ ap (λ (ps : List Posting). sums f ps) (in_period t used) ∙ sums-filter f (is_under t) rows)
-          ∙ sym (masked (λ p. cond (is_under t p) (f p) (pos 0)) (own (tally_posting t)) rows)
-          ∙ sym (sums_agree _ _ (agree_at t) rows)
-          ∙ sym (sums-filter (λ p. cond (own p) (f p) (pos 0)) (is_under t) rows)
+  -- the item is counted, and posts
+  posting_more : is_item_under t i ≡ true → IsMore (item_posting i) (under items memos t) (under (i ∷ items) memos t) → IsTallyOf items memos t → IsTallyOf (i ∷ items) memos (with_posting (item_posting i) (counting i t))
+  posting_more own more s =
+      let p = item_posting i in
+      let rows = under items memos t in
+      let rows_more = under (i ∷ items) memos t in
+      record {
+        accepted = accepted_more own s;
+        canx = canx_more own s;
+        living = documents_more p rows rows_more t.living more s.living;
+        count = let e = length_more p rows rows_more (t.living + t.memo_count) more s.count in omega (arith, e);
+        cash = sums_more (λ q. q.cash) p rows rows_more t.cash more s.cash;
+        credit = sums_more (λ q. q.credit) p rows rows_more t.credit more s.credit;
+        commission = sums_more (λ q. q.commission) p rows rows_more t.commission more s.commission;
+        tax = sums_more (λ q. q.tax) p rows rows_more t.tax more s.tax;
+        memos = sums_more (λ q. q.memos) p rows rows_more t.memos more s.memos;
+      }
 
-      at_tally : (t : Tally) (used : Bool) → (used ≡ true → cond (own (tally_posting t)) (f (tally_posting t)) (pos 0) ≡ sums (λ p. cond (own p) (f p) (pos 0)) (filter (is_under t) rows)) → cond used (cond (own (tally_posting t)) (f (tally_posting t)) (pos 0)) (pos 0) ≡ sums (λ p. cond (own p) (f p) (pos 0)) (filter (λ p. used && is_under t p) rows)
-      at_tally t true is = is refl
-      at_tally t false is = ap (λ (ps : List Posting). sums (λ p. cond (own p) (f p) (pos 0)) ps) (sym (filter_none rows))
+  pub own_item : is_item_under t i ≡ true → IsTallyOf items memos t → IsTallyOf (i ∷ items) memos (with_item i t)
+  own_item own s =
+      let parts = and_parts (i.agent == t.agent) _ own in
+      let tail = and_parts (i.transaction.document.airline == t.airline) (i.period == t.period) parts.1 in
+      let period : i.period ≡ t.period = eqb-true i.period t.period tail.1 in
+      elim (cases_Bool (is_counted i.period i)) [
+        | inl counted ↦
+            subst (λ (u : Tally). IsTallyOf (i ∷ items) memos u) (sym (ap (λ (b : Bool). cond b (with_posting (item_posting i) (counting i t)) (counting i t)) counted))
+            (posting_more own (subst (λ (rows : List Posting). IsMore (item_posting i) (under items memos t) rows) (sym (posted true (subst (λ (q : ℕ). is_counted q i ≡ true) period counted) (both_true parts.0 tail.0))) (IsPermutation-refl _)) s)
+        | inr not_counted ↦
+            subst (λ (u : Tally). IsTallyOf (i ∷ items) memos u) (sym (ap (λ (b : Bool). cond b (with_posting (item_posting i) (counting i t)) (counting i t)) not_counted))
+            (counting_more own (uncounted (subst (λ (q : ℕ). is_counted q i ≡ false) period not_counted)) s)
+      ]
 
-      pub by_tallies : sums f (filter own from_tallies) ≡ sums f (filter own rows)
-      by_tallies =
-          sums-filter f own from_tallies
-          ∙ sums-map (λ p. cond (own p) (f p) (pos 0)) tally_posting (filter (is_used period) tallies)
-          ∙ sums-filter (λ t. cond (own (tally_posting t)) (f (tally_posting t)) (pos 0)) (is_used period) tallies
-          ∙ sums_agree_on (λ t. cond (is_used period t) (cond (own (tally_posting t)) (f (tally_posting t)) (pos 0)) (pos 0)) (λ t. sums (λ p. cond (own p) (f p) (pos 0)) (filter (λ p. is_used period t && is_under t p) rows)) tallies
-          (λ k d below. at_tally (get_or tallies k d) (is_used period (get_or tallies k d)) (at_used (get_or tallies k d) (are.each k d below)))
-          ∙ sums_over (λ p. cond (own p) (f p) (pos 0)) (λ t p. is_used period t && is_under t p) tallies rows once_at
-          ∙ sym (sums-filter f own rows)
+-- ---- a memo more
 
-    pub own_figures : figures_of (filter own from_tallies) ≡ figures_of (filter own rows)
-    own_figures =
-        let count : pos (sum_by (λ p. p.documents) (filter own from_tallies)) ≡ pos (sum_by (λ p. p.documents) (filter own rows)) =
-        documents_as_int (filter own from_tallies)
-        ∙ by_tallies (λ p. pos p.documents) (λ t is. ap (λ (n : ℕ). pos n) is.living ∙ documents_as_int (under items memos t))
-        ∙ sym (documents_as_int (filter own rows)) in
-        let cash = by_tallies (λ p. p.cash) (λ t is. is.cash) in
-        let commission = by_tallies (λ p. p.commission) (λ t is. is.commission) in
-        let tax = by_tallies (λ p. p.tax) (λ t is. is.tax) in
-        let memos_sum = by_tallies (λ p. p.memos) (λ t is. is.memos) in
-        figures_same _ _ (cc) cash (by_tallies (λ p. p.credit) (λ t is. is.credit)) commission tax memos_sum
-        (ap (λ (x : ℤ). ((x -ℤ sums (λ p. p.commission) (filter own from_tallies)) -ℤ sums (λ p. p.tax) (filter own from_tallies)) +ℤ sums (λ p. p.memos) (filter own from_tallies)) cash
-        ∙ ap (λ (x : ℤ). ((sums (λ p. p.cash) (filter own rows) -ℤ x) -ℤ sums (λ p. p.tax) (filter own from_tallies)) +ℤ sums (λ p. p.memos) (filter own from_tallies)) commission
-        ∙ ap (λ (x : ℤ). ((sums (λ p. p.cash) (filter own rows) -ℤ sums (λ p. p.commission) (filter own rows)) -ℤ x) +ℤ sums (λ p. p.memos) (filter own from_tallies)) tax
-        ∙ ap (λ (x : ℤ). ((sums (λ p. p.cash) (filter own rows) -ℤ sums (λ p. p.commission) (filter own rows)) -ℤ sums (λ p. p.tax) (filter own rows)) +ℤ x) memos_sum)
+module _ (m : MemoFields) (items : List Item) (memos : List MemoFields) (t : Tally) where
+  abbrev first : List Posting
+  first = item_postings t.period items
 
-    module _ (code_of : Posting → ℕ) (same_code : (t : Tally) (p : Posting) → is_under t p ≡ true → code_of p ≡ code_of (tally_posting t)) (code : ℕ) where
-      pub to_rows : Contains (map code_of (filter own from_tallies)) code → Contains (map code_of (filter own rows)) code
-      to_rows has =
-          let q = kept code_of own from_tallies code has in
-          let t = kept tally_posting (is_used period) tallies q.0 q.1 in
-          let more : 0 < length (under items memos t.0) =
-          rw (← (tally_is t.0 t.1).count) (used_some t.0.living t.0.memo_count ((and_parts (t.0.period == period) (nat_lt 0 t.0.living || nat_lt 0 t.0.memo_count) t.2).1)) in
-          let p = some_passes (is_under t.0) rows (subst (λ (ps : List Posting). 0 < length ps) (in_period t.0 t.2) more) in
-          let owned : own p.0 ≡ true = agrees t.0 p.0 p.2 ∙ ap own t.3 ∙ q.2 in
-          let named : code_of p.0 ≡ code = same_code t.0 p.0 p.2 ∙ ap code_of t.3 ∙ q.3 in
-          subst (λ (c : ℕ). Contains (map code_of (filter own rows)) c) named (keeps code_of own rows p.0 p.1 owned)
+  billed_postings : (b : Bool) → is_billed_in t.period m ≡ b → postings t.period items (m ∷ memos) ≡ first ++ map memo_posting (cond b (m ∷ filter (is_billed_in t.period) memos) (filter (is_billed_in t.period) memos))
+  billed_postings b is = ap (λ (c : Bool). first ++ map memo_posting (cond c (m ∷ filter (is_billed_in t.period) memos) (filter (is_billed_in t.period) memos))) is
 
-      pub to_tallies : Contains (map code_of (filter own rows)) code → Contains (map code_of (filter own from_tallies)) code
-      to_tallies has =
-          let p = kept code_of own rows code has in
-          let t = are.whole period p.0 p.1 in
-          let used = used_at t.0 p.0 t.1 t.2 p.1 t.3 in
-          let owned : own (tally_posting t.0) ≡ true = sym (agrees t.0 p.0 t.3) ∙ p.2 in
-          let named : code_of (tally_posting t.0) ≡ code = sym (same_code t.0 p.0 t.3) ∙ p.3 in
-          subst (λ (c : ℕ). Contains (map code_of (filter own from_tallies)) c) named (keeps code_of own from_tallies (tally_posting t.0) (keeps tally_posting (is_used period) tallies t.0 t.1 used) owned)
+  pub unbilled : is_billed_in t.period m ≡ false → under items (m ∷ memos) t ≡ under items memos t
+  unbilled is = ap (λ (rows : List Posting). filter (is_under t) rows) (billed_postings false is)
+
+  -- the postings of the tally, the memo's in its place
+  pub billed : (b : Bool) → is_billed_in t.period m ≡ true → is_under t (memo_posting m) ≡ b → under items (m ∷ memos) t ≡ filter (is_under t) first ++ cond b (memo_posting m ∷ filter (is_under t) (memo_postings t.period memos)) (filter (is_under t) (memo_postings t.period memos))
+  billed b in_period is =
+      ap (λ (rows : List Posting). filter (is_under t) rows) (billed_postings true in_period)
+      ∙ filter-append (is_under t) first (memo_posting m ∷ memo_postings t.period memos)
+      ∙ ap (λ (c : Bool). filter (is_under t) first ++ cond c (memo_posting m ∷ filter (is_under t) (memo_postings t.period memos)) (filter (is_under t) (memo_postings t.period memos))) is
+
+  pub in_two : under items memos t ≡ filter (is_under t) first ++ filter (is_under t) (memo_postings t.period memos)
+  in_two = filter-append (is_under t) first (memo_postings t.period memos)
+
+  other_billed : is_memo_under t m ≡ false → under items (m ∷ memos) t ≡ under items memos t
+  other_billed other = elim (cases_Bool (is_billed_in t.period m)) [
+    | inl in_period ↦ billed false in_period (not_under in_period) ∙ sym in_two
+    | inr elsewhere ↦ unbilled elsewhere
+  ] where
+    without : (a b c : Bool) → (a && (b && c)) ≡ false → c ≡ true → (a && b) ≡ false
+    without true true c is passes = sym passes ∙ is
+    without true false c is passes = refl
+    without false b c is passes = refl
+
+    not_under : is_billed_in t.period m ≡ true → is_under t (memo_posting m) ≡ false
+    not_under = without (m.agent == t.agent) (m.airline == t.airline) (is_billed_in t.period m) other
+
+  pub other_memo : is_memo_under t m ≡ false → IsTallyOf items memos t → IsTallyOf items (m ∷ memos) t
+  other_memo other s =
+      let same = sym (other_billed other) in
+      record {
+        accepted = s.accepted;
+        canx = s.canx;
+        living = s.living ∙ ap (λ (rows : List Posting). sum_by (λ p. p.documents) rows) same;
+        count = s.count ∙ ap (λ (rows : List Posting). length rows) same;
+        cash = s.cash ∙ ap (λ (rows : List Posting). sums (λ p. p.cash) rows) same;
+        credit = s.credit ∙ ap (λ (rows : List Posting). sums (λ p. p.credit) rows) same;
+        commission = s.commission ∙ ap (λ (rows : List Posting). sums (λ p. p.commission) rows) same;
+        tax = s.tax ∙ ap (λ (rows : List Posting). sums (λ p. p.tax) rows) same;
+        memos = s.memos ∙ ap (λ (rows : List Posting). sums (λ p. p.memos) rows) same;
+      }
+
+  memo_more : IsMore (memo_posting m) (under items memos t) (under items (m ∷ memos) t) → IsTallyOf items memos t → IsTallyOf items (m ∷ memos) (with_memo m t)
+  memo_more more s =
+      let p = memo_posting m in
+      let rows = under items memos t in
+      let rows_more = under items (m ∷ memos) t in
+      record {
+        accepted = s.accepted;
+        canx = s.canx;
+        living = documents_more p rows rows_more t.living more s.living;
+        count = let e = length_more p rows rows_more (t.living + t.memo_count) more s.count in omega (arith, e);
+        cash = sums_more (λ q. q.cash) p rows rows_more t.cash more s.cash;
+        credit = sums_more (λ q. q.credit) p rows rows_more t.credit more s.credit;
+        commission = sums_more (λ q. q.commission) p rows rows_more t.commission more s.commission;
+        tax = sums_more (λ q. q.tax) p rows rows_more t.tax more s.tax;
+        memos = sums_more (λ q. q.memos) p rows rows_more t.memos more s.memos;
+      }
+
+  pub own_memo : is_memo_under t m ≡ true → IsTallyOf items memos t → IsTallyOf items (m ∷ memos) (with_memo m t)
+  own_memo own s =
+      let parts = and_parts (m.agent == t.agent) _ own in
+      let tail = and_parts (m.airline == t.airline) (is_billed_in t.period m) parts.1 in
+      let place = billed true tail.1 (both_true parts.0 tail.0) in
+      let more = IsPermutation-middle (filter (is_under t) first) (memo_posting m) (filter (is_under t) (memo_postings t.period memos)) in
+      memo_more (subst (λ (rows : List Posting). IsMore (memo_posting m) rows (under items (m ∷ memos) t)) (sym in_two)
+      (subst (λ (rows : List Posting). IsMore (memo_posting m) (filter (is_under t) first ++ filter (is_under t) (memo_postings t.period memos)) rows) (sym place) more)) s
+
+-- ---- the order of rows and of tallies
+
+pub tally_permuted : (items others : List Item) (memos other_memos : List MemoFields) (t : Tally) → IsPermutation items others → IsPermutation memos other_memos → IsTallyOf items memos t → IsTallyOf others other_memos t
+tally_permuted items others memos other_memos t same other_same s =
+    let rows = under items memos t in
+    let other_rows = under others other_memos t in
+    let same_rows = IsPermutation-filter (is_under t) _ _ (postings_permuted t.period items others memos other_memos same other_same) in
+    let same_items = IsPermutation-filter (is_item_under t) items others same in
+    record {
+      accepted = s.accepted ∙ sym (length_permutation _ _ same_items);
+      canx = s.canx ∙ sym (sum_by-IsPermutation (λ i. cond (is_canx i) 1 0) _ _ same_items);
+      living = s.living ∙ sym (sum_by-IsPermutation (λ p. p.documents) _ _ same_rows);
+      count = s.count ∙ sym (length_permutation _ _ same_rows);
+      cash = s.cash ∙ sums_permuted (λ p. p.cash) _ _ same_rows;
+      credit = s.credit ∙ sums_permuted (λ p. p.credit) _ _ same_rows;
+      commission = s.commission ∙ sums_permuted (λ p. p.commission) _ _ same_rows;
+      tax = s.tax ∙ sums_permuted (λ p. p.tax) _ _ same_rows;
+      memos = s.memos ∙ sums_permuted (λ p. p.memos) _ _ same_rows;
+    }
+
+pub tally_postings_permuted : (period : ℕ) (tallies others : List Tally) → IsPermutation tallies others → IsPermutation (tally_postings period tallies) (tally_postings period others)
+tally_postings_permuted period tallies others same = IsPermutation-map tally_posting _ _ (IsPermutation-filter (is_used period) tallies others same)
+
+pub no_rows : (agent airline period : ℕ) → IsTallyOf [] [] (no_tally agent airline period)
+no_rows agent airline period = record { accepted = refl; canx = refl; living = refl; count = refl; cash = refl; credit = refl; commission = refl; tax = refl; memos = refl }

@@ -5,22 +5,22 @@ use Rattle.bsp_fields.specs.Decimal.{fixed_digits}
 use Rattle.std.specs.List.{flat_map, Contains}
 use Rattle.std.proofs.lemmas.Bool.{and_parts, eqb-true}
 use Rattle.bsp_rules.specs.declared.rows.Item.{Item}
-use Rattle.bsp_postings.specs.declared.tally.Tally.{Tally}
+use Rattle.bsp_statement.specs.declared.tally.Tally.{Tally}
 use Rattle.bsp_memos.specs.declared.fields.MemoFields.{MemoFields}
-use Rattle.bsp_postings.specs.declared.posting.Posting.{Posting}
+use Rattle.bsp_statement.specs.declared.posting.Posting.{Posting}
 use Rattle.bsp_statement.specs.declared.figures.Figures.{Figures}
 use Rattle.bsp_statement.specs.declared.nets.AgentNet.{AgentNet}
 use Rattle.bsp_statement.specs.declared.nets.AirlineNet.{AirlineNet}
 use Rattle.bsp_statement.specs.declared.nets.Settlement.{Settlement}
-use Rattle.bsp_postings.specs.Postings.{postings, is_of_agent, is_of_airline, of_agent}
+use Rattle.bsp_statement.specs.Postings.{postings, is_of_agent, is_of_airline, of_agent}
 use Rattle.bsp_statement.specs.Sums.{figures_of, AreCodes}
-use Rattle.bsp_postings.proofs.NetLemmas.{agent_net_is}
-use Rattle.bsp_postings.specs.Nets.{agent_net, net_of_postings}
-use Rattle.bsp_postings.specs.Tallies.{is_under, tally_posting, tally_postings, AreTallies}
+use Rattle.bsp_statement.proofs.NetLemmas.{agent_net_is}
+use Rattle.bsp_statement.specs.Nets.{agent_net, net_of_postings}
+use Rattle.bsp_statement.specs.Tallies.{is_under, tally_posting, tally_postings, AreTallies}
 use Rattle.bsp_statement.specs.Texts.{figures_line, airline_line, heading}
 use Rattle.bsp_statement.specs.Reports.{IsStatement, IsSettlement}
-use Rattle.bsp_statement.proofs.TallyLemmas.{own_figures, to_rows, to_tallies}
-use Rattle.bsp_postings.proofs.ListLemmas.{filter_all, filter_filter}
+use Rattle.bsp_statement.proofs.TallyFigures.{own_figures, to_rows, to_tallies}
+use Rattle.bsp_statement.proofs.ListLemmas.{filter_all, filter_filter}
 
 pub flat_map_agree : {X Y : Type 0} (f g : X → List Y) → ((x : X) → f x ≡ g x) → (xs : List X) → flat_map f xs ≡ flat_map g xs
 flat_map_agree f g same [] = refl

@@ -12,9 +12,9 @@ use crate::missing_log::MissingLog;
 use crate::on_files::{OnFiles, on_files};
 use bsp_book::ListBook;
 use bsp_rows::{Day, Plan};
-use bsp_store_damage::{Damage, find_damage};
 use bsp_store_open::{
-    OpenFault, again, is_ours, kept_list, old_refusal, old_version, refusal, version_in,
+    Damage, OpenFault, again, find_damage, is_ours, kept_list, old_refusal, old_version, refusal,
+    version_in,
 };
 use sqlite::{Alter, Connection, Start};
 use std::alloc::Global;

@@ -12,8 +12,7 @@ mod opening;
 
 pub use audit::{AuditFault, Summary, audit_at, audit_store, plan_at};
 pub use book::{KeptBook, SqlBook};
-pub use bsp_store_damage::Damage;
-pub use bsp_store_open::OpenFault;
+pub use bsp_store_open::{Damage, OpenFault};
 pub use laws::stops_are_found;
 pub use logged::Logged;
 pub use opening::damage_at;

@@ -17,10 +17,9 @@ ghost use Rattle.bsp_store.specs.Openings.{IsOpening, IsOpeningAt, IsOpeningOf};
 use crate::book::SqlBook;
 use crate::logged::Logged;
 use crate::on_files::{Files, OnFiles, book_at, on_files};
-use bsp_store_damage::{Damage, find_damage};
 use bsp_store_open::{
-    OldVersion, OpenFault, again, empty_list, is_bare, is_ours, kept_list, migrated_list,
-    old_version, open_ordered, refusal,
+    Damage, OldVersion, OpenFault, again, empty_list, find_damage, is_bare, is_ours, kept_list,
+    migrated_list, old_version, open_ordered, refusal,
 };
 use bsp_store_save::make_book;
 use sqlite::{Alter, Connection, Error, ErrorCode, FileFrom, FileStore, MemStore, Start};

@@ -47,7 +47,10 @@ fn expect_version(rows: &[Row]) -> Result<(), OpenFault>
 /// # Errors
 ///
 /// `Damaged`, where the tables are not those of a book. Those of the store.
-pub fn rows_of<S: Alter>(conn: &mut Connection<S>, table: WholeTable) -> Result<Vec<Row>, OpenFault>
+pub(crate) fn rows_of<S: Alter>(
+    conn: &mut Connection<S>,
+    table: WholeTable,
+) -> Result<Vec<Row>, OpenFault>
     ensures { IsTableRead S.Store conn.old conn.new result (λ _. ⊤) (λ rows trees. AreAllOf (part_of table) trees rows.items) }
 {
     expect_tables(conn)?;
@@ -61,7 +64,7 @@ pub fn rows_of<S: Alter>(conn: &mut Connection<S>, table: WholeTable) -> Result<
 /// `OtherVersion`, where `meta` has a version that is none of 1 to 3. `Damaged`, where it has none or that of another
 /// known version, or the tables are not those of a book. Those of the
 /// store.
-pub fn plan_rows<S: Alter>(conn: &mut Connection<S>) -> Result<PlanRows, OpenFault>
+pub(crate) fn plan_rows<S: Alter>(conn: &mut Connection<S>) -> Result<PlanRows, OpenFault>
     ensures { IsReading S.Store conn.old conn.new result (λ rows. IsOfVersion rows.meta.items) (λ rows trees. ArePlanRows trees rows) ShowsNoBook }
 {
     let meta = rows_of(conn, WholeTable::Meta)?;

@@ -59,7 +59,7 @@ fn planned_tables<S: Alter>(alloc: Global, conn: &mut Connection<S>) -> Result<T
 /// # Errors
 ///
 /// `Damaged`, where the tables are not those of a book. Those of the store.
-pub fn load_rows<S: Alter, K, V, M, T: StoredTable<K, V, M>>(
+pub(crate) fn load_rows<S: Alter, K, V, M, T: StoredTable<K, V, M>>(
     table: &T,
     conn: &mut Connection<S>,
     memory: &mut M,

@@ -12,7 +12,7 @@ use sqlite::{Alter, Connection, Row};
 pub(crate) const VERSION_TEXT: &str = "SELECT id, version FROM meta";
 
 /// Whether a version is one from the first to that of this program, so that its tables are known.
-pub fn is_known(version: i64) -> bool
+pub(crate) fn is_known(version: i64) -> bool
     ensures { result ≡ is_known version }
 {
     1 <= version && version <= VERSION

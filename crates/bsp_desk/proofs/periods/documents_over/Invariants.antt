@@ -1,7 +1,7 @@
 use Rattle.std.proofs.Common.{◌≡◌, ℕ, ◌<◌, ◌≤◌, ◌*◌, ◌^◌, get_or, length, take}
 use Rattle.std.specs.List.{sum_by}
-use Rattle.bsp_postings.specs.Tallies.{tally_postings}
-use Rattle.bsp_postings.specs.declared.tally.Tally.{Tally}
+use Rattle.bsp_statement.specs.Tallies.{tally_postings}
+use Rattle.bsp_statement.specs.declared.tally.Tally.{Tally}
 use Rattle.bsp_desk.proofs.periods.documents_over.Given as goal
 
 abbrev pub invariant-loop-tally : goal.invariant-loop-tally

@@ -4,8 +4,8 @@ use Rattle.std.specs.Int.{saturate_signed}
 use Rattle.std.proofs.lemmas.Int.{ints}
 use mir.Syntax.{w128}
 use mir.Val.{to_z}
-use Rattle.bsp_postings.proofs.NetLemmas.{net_of_posting}
-use Rattle.bsp_postings.specs.Tallies.{tally_posting}
+use Rattle.bsp_statement.proofs.NetLemmas.{net_of_posting}
+use Rattle.bsp_statement.specs.Tallies.{tally_posting}
 use Rattle.bsp_desk.proofs.Posted.{net_kept, net_more}
 use Rattle.bsp_desk.proofs.periods.net_over.Goals as goal
 use Rattle.bsp_desk.proofs.periods.net_over.Goals.{then-is_used_in, else-is_used_in}

@@ -1,7 +1,7 @@
 use Rattle.std.proofs.Common.{◌≡◌, ◌≤◌, ◌*◌, ◌^◌, length, take}
 use Rattle.std.specs.Prelude.{unsigned_abs}
-use Rattle.bsp_postings.specs.Nets.{net_of_postings}
-use Rattle.bsp_postings.specs.Tallies.{tally_postings}
+use Rattle.bsp_statement.specs.Nets.{net_of_postings}
+use Rattle.bsp_statement.specs.Tallies.{tally_postings}
 use Rattle.bsp_desk.proofs.periods.net_over.Given as goal
 
 abbrev pub invariant-loop-tally : goal.invariant-loop-tally

@@ -1,7 +1,7 @@
 use Rattle.std.proofs.Common.{List, Some, ap, map, sym, subst, ◌∙◌}
 use Rattle.std.specs.Result.{result_ok}
-use Rattle.bsp_postings.specs.Sides.{AreOnce}
-use Rattle.bsp_postings.specs.declared.tally.Tally.{Tally}
+use Rattle.bsp_statement.specs.Sides.{AreOnce}
+use Rattle.bsp_statement.specs.declared.tally.Tally.{Tally}
 use Rattle.bsp_rows.specs.Rows.{Rows}
 use Rattle.bsp_desk.proofs.FewTallies.{airlines_once}
 use Rattle.bsp_desk.proofs.PeriodSums.{period_says}

@@ -5,7 +5,7 @@ use mir.Val.{of_z, to_z}
 use Rattle.std.proofs.lemmas.Int.{ints}
 use Rattle.std.proofs.lemmas.List.{length-map}
 use Rattle.std.proofs.lemmas.List.Elements.{All-contains}
-use Rattle.bsp_postings.specs.declared.tally.Tally.{Tally}
+use Rattle.bsp_statement.specs.declared.tally.Tally.{Tally}
 use Rattle.bsp_rows.proofs.RowLemmas.{contains_map}
 use Rattle.bsp_desk.proofs.FewTallies.{few_codes}
 use Rattle.bsp_desk.proofs.PeriodSums.{shown_as}

@@ -1,7 +1,7 @@
 use Rattle.std.proofs.Common.{List, Some, ap, sym, subst, ◌∙◌}
 use Rattle.std.specs.Result.{result_ok}
-use Rattle.bsp_postings.specs.Tallies.{AreTallies}
-use Rattle.bsp_postings.specs.declared.tally.Tally.{Tally}
+use Rattle.bsp_statement.specs.Tallies.{AreTallies}
+use Rattle.bsp_statement.specs.declared.tally.Tally.{Tally}
 use Rattle.bsp_rows.specs.Rows.{Rows}
 use Rattle.bsp_rows.specs.declared.questions.Tallies.TheVariants.{OfAgentIn}
 use Rattle.bsp_rows.proofs.AskedTallies.{asked_tallies}

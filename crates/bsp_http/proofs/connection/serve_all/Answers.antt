@@ -1,4 +1,4 @@
-use Rattle.bsp_peers.specs.Shares.{exchanges}
+use Rattle.bsp_streams.specs.Shares.{exchanges}
 use Rattle.bsp_http.proofs.connection.serve_all.Goals as goal
 
 pub returns-clause-run : goal.returns-clause-run

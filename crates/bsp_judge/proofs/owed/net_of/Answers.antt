@@ -3,7 +3,7 @@ use Rattle.std.specs.Prelude.{◌+ℤ◌}
 use Rattle.std.proofs.lemmas.Int.{ints}
 use mir.Syntax.{w128}
 use mir.Val.{of_z, to_z}
-use Rattle.bsp_postings.proofs.NetLemmas.{net_of_posting}
+use Rattle.bsp_statement.proofs.NetLemmas.{net_of_posting}
 use Rattle.bsp_judge.proofs.JudgeLemmas.{net_next}
 use Rattle.bsp_judge.proofs.owed.net_of.Goals as goal
 

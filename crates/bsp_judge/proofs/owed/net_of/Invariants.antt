@@ -1,7 +1,7 @@
 use Rattle.std.proofs.Common.{◌≡◌, ◌≤◌, ◌*◌, ◌^◌, map, take}
 use Rattle.std.specs.Prelude.{unsigned_abs}
-use Rattle.bsp_postings.specs.Nets.{net_of_postings}
-use Rattle.bsp_postings.specs.Tallies.{tally_posting}
+use Rattle.bsp_statement.specs.Nets.{net_of_postings}
+use Rattle.bsp_statement.specs.Tallies.{tally_posting}
 use Rattle.bsp_judge.proofs.owed.net_of.Given as goal
 
 abbrev pub invariant-loop-tally : goal.invariant-loop-tally

@@ -4,7 +4,7 @@ use Rattle.std.specs.List.{flat_map}
 use Rattle.std.proofs.lemmas.Result.{on_ok_weaker}
 use Rattle.bsp_fields.specs.Decimal.{fixed_digits}
 use Rattle.bsp_statement.specs.declared.figures.Figures.{Figures}
-use Rattle.bsp_postings.specs.Postings.{of_airline}
+use Rattle.bsp_statement.specs.Postings.{of_airline}
 use Rattle.bsp_statement.specs.Sums.{figures_of}
 use Rattle.bsp_statement.specs.Texts.{airline_line, figures_line, heading}
 use Rattle.bsp_statement.proofs.PieceLemmas.{flat_map_map, pieces3}

@@ -1,5 +1,5 @@
 use Rattle.std.proofs.Common.{◌≡◌, ◌≢◌, ◌<◌, ◌+◌, ℕ, true, false, Option, None, Some, refl, ap, sym, ◌∙◌, arith}
-use Rattle.bsp_peers.specs.declared.peers.Awaited.{Awaited}
+use Rattle.bsp_streams.specs.declared.peers.Awaited.{Awaited}
 use Rattle.bsp_sockets.specs.Phases.{IsAgain, IsStill, message_of, output_of}
 use Rattle.bsp_sockets.specs.declared.phase.Begun.{Begun}
 use Rattle.bsp_sockets.specs.declared.phase.Unread.{Unread}

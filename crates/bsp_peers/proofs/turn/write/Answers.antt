@@ -1,5 +1,0 @@
-use Rattle.std.proofs.Common.{rules}
-use Rattle.bsp_peers.proofs.turn.write.Goals as goal
-
-pub returns-in-Bytes : goal.returns-in-Bytes
-returns-in-Bytes c = search rules

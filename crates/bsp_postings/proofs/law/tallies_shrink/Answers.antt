@@ -1,8 +1,0 @@
-use Rattle.bsp_postings.proofs.RemovalLemmas.{own_item, own_memo}
-use Rattle.bsp_postings.proofs.law.tallies_shrink.Goals as goal
-
-pub returns-clause-item : goal.returns-clause-item
-returns-clause-item c = own_item
-
-pub returns-clause-memo : goal.returns-clause-memo
-returns-clause-memo c = own_memo
