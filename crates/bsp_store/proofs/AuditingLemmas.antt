@@ -1,5 +1,5 @@
 -- From the rows that an audit finds to what the store keeps.
-use Rattle.std.proofs.Common.{◌≡◌, ℕ, [], length, None, Result, Ok, Err, IfOk, sym, ap, subst, ◌∙◌}
+use Rattle.std.proofs.Common.{◌≡◌, ℕ, length, None, Result, Ok, Err, IfOk, sym, ap, subst, ◌∙◌}
 use Rattle.bsp_store_base.specs.Std.{entries, IfErr, IsAntisymmetric, IsTotalOrder, MatchResult, Ordering, true}
 use Rattle.std.specs.BTreeMap.{BTreeMap, IsOrdered as AreKeysOrdered}
 use Rattle.bsp_store_base.proofs.Sqlite.{Ghosts, Held, IsQuiet}

@@ -5,6 +5,7 @@ ghost use Rattle.std.specs.Borrow.{sem};
 ghost use Rattle.bsp_book.specs.Calls.{Commits, FallsBack, Faults, LeavesEither};
 ghost use Rattle.bsp_rows.specs.Rows.{HasNumberKey, Rows, key_of};
 ghost use Rattle.bsp_store_open.specs.Formed.{IsFormedItem};
+ghost use Rattle.bsp_store.specs.Keeping.{IfKept};
 ghost use Rattle.bsp_store.specs.Meanings.{IsOfRoom, cause_of, is_over, meaning};
 
 use crate::keeping::{InMemory, Keeps};
@@ -197,12 +198,13 @@ impl<L: InMemory, C: Keeps<L>> Book for KeptBook<L, C> {
     }
 
     /// Where `NoRoom` is answered, the error in `given_up` is one that an opening answers with B01. Where a book that works
-    /// answers `Failed`, its `cause` is the error in `given_up`; it is none where memory did not keep what the store has.
+    /// answers `Failed`, its `cause` is the error in `given_up`; or it is none, and the store has committed what memory did
+    /// not keep.
     fn commit(&mut self) -> Result<(), BookFault>
         ensures ok { OnOk result (Commits (meaning L.Book.means C.keeps C.leaves) self.old self.new) }
         ensures fault { Faults (meaning L.Book.means C.keeps C.leaves) self.old self.new (FallsBack (meaning L.Book.means C.keeps C.leaves) self.old self.new) (LeavesEither (meaning L.Book.means C.keeps C.leaves) self.old self.new) result }
         ensures room { result ≡ Err BookFault.NoRoom → IsSomeAnd self.new.given_up IsOfRoom }
-        ensures failed { result ≡ Err BookFault.Failed → is_over self.old.state ≡ false → (cause_of self.new.state ≡ None) ⊎ (cause_of self.new.state ≡ self.new.given_up) }
+        ensures failed { result ≡ Err BookFault.Failed → is_over self.old.state ≡ false → ((cause_of self.new.state ≡ None) × IfKept L.Book.means C.keeps self.old.list self.old.conn (λ last now. C.keeps self.new.conn now)) ⊎ (cause_of self.new.state ≡ self.new.given_up) }
     {
         if self.has_failed() {
             return Err(BookFault::Failed);
