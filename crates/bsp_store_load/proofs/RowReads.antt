@@ -1,7 +1,6 @@
 -- A row that reads as an entry, and what is found at the entry's key.
-use Rattle.bsp_store_base.proofs.Std.{◌∙◌, ◌≡◌, ap, Bool, both_ways, false, is_some, IsTrue, List, None, Option, refl, Some, sym, true}
-use Rattle.sqlite_value.specs.declared.value.ValueRef.{ValueRef}
-use Rattle.bsp_store_base.proofs.Sqlite.{bound, Row}
+use Rattle.bsp_store_base.proofs.Std.{◌∙◌, ◌≡◌, ap, Bool, both_ways, false, is_some, IsTrue, None, Option, refl, Some, sym, true}
+use Rattle.bsp_store_base.proofs.Sqlite.{Row}
 use Rattle.bsp_rows.proofs.MapLemmas.{same_Some}
 use Rattle.bsp_store_load.specs.Loading.{has_real}
 
@@ -15,8 +14,8 @@ module _ {E : Type 0} (row_of : E → Row) (row : Row) (read : Option E) (e : E)
     own_is = same_Some own e (sym is ∙ some)
 
     -- and its row is not found to be another
-    pub not_refused : row ≡ row_of e → (values : List ValueRef) → bound values ≡ row_of own → has_real (row_of e) ≡ false → (b : Bool) → b ≡ false → (row ≡ bound values → has_real row ≡ false → IsTrue b) → ⊥
-    not_refused same values texts plain b fails fine = both_ways b fails (fine (same ∙ ap row_of (sym own_is) ∙ sym texts) (ap has_real same ∙ plain))
+    pub not_refused : row ≡ row_of e → (given : Row) → given ≡ row_of own → has_real (row_of e) ≡ false → (b : Bool) → b ≡ false → (row ≡ given → has_real row ≡ false → IsTrue b) → ⊥
+    not_refused same given texts plain b fails fine = both_ways b fails (fine (same ∙ ap row_of (sym own_is) ∙ sym texts) (ap has_real same ∙ plain))
 
 -- nothing is found
 pub found_none : {V : Type 0} (found : Option V) (b : Bool) → b ≡ is_some found → b ≡ false → found ≡ None

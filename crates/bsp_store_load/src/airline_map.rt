@@ -15,7 +15,7 @@ use bsp_maps::Rule;
 use bsp_memory_rows::Tables;
 use bsp_rows::{AirlineCode, Token};
 use bsp_store_base::AirlineEntry;
-use bsp_store_rows::{AirlineRow, read_airline};
+use bsp_store_rows::{airline_cells, read_airline};
 use sqlite::Row;
 use std::alloc::{AllocError, Global};
 use std::collections::BTreeMap;
@@ -93,7 +93,7 @@ impl RowOf<AirlineCode, AirlineEntry> for Airlines {
     ghost has_row = { λ e. HasStoredPlace e.1 };
 
     fn is_row_of(&self, row: &Row, code: &AirlineCode, airline: &AirlineEntry) -> bool {
-        airline.has_stored_place() && is_row(row, &AirlineRow::of(*code, airline).values())
+        airline.has_stored_place() && is_row(row, &airline_cells(*code, airline))
     }
 }
 

@@ -15,7 +15,7 @@ use bsp_memory_rows::{NoRoom, Tables};
 use bsp_rows::{AgentCode, DocNumber, RangeKey, Token};
 use bsp_store_base::KeyedTable;
 use bsp_store_rows::{
-    AgentRow, Agents as AgentTable, RangeRow, Ranges as RangeTable, read_agent, read_range,
+    Agents as AgentTable, Ranges as RangeTable, agent_cells, range_cells, read_agent, read_range,
 };
 use sqlite::Row;
 
@@ -52,7 +52,7 @@ impl StoredTable<AgentCode, Token, Tables> for Agents {
         let Some((agent, token)) = read_agent(row) else {
             return Ok(false);
         };
-        if !is_row(row, &AgentRow::of(agent, &token).values()) {
+        if !is_row(row, &agent_cells(agent, &token)) {
             return Ok(false);
         }
         if tables.agent_token(agent).is_some() {
@@ -98,7 +98,7 @@ impl StoredTable<RangeKey, DocNumber, Tables> for Ranges {
         let Some((key, last)) = read_range(row) else {
             return Ok(false);
         };
-        if !is_row(row, &RangeRow::of(&key, last).values()) {
+        if !is_row(row, &range_cells(&key, last)) {
             return Ok(false);
         }
         if tables.range_table().get(key).is_some() {

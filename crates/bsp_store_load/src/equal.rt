@@ -1,9 +1,11 @@
 //! Whether a row has these values.
 
-ghost use Rattle.std.specs.Prelude.{◌≡◌, ◌<◌, ◌∷◌, [], IsTrue, false, length};
+ghost use Rattle.std.specs.Prelude.{◌≡◌, ◌<◌, ◌≤◌, ◌∷◌, [], IsTrue, false, length};
 ghost use Rattle.bsp_store_base.specs.Sqlite.{bound, bound_value, column, owned};
 ghost use Rattle.bsp_store_load.specs.Loading.{has_real, is_real};
+ghost use Rattle.bsp_store_rows.specs.Cells.{written};
 
+use bsp_store_rows::{Cell, values_of};
 use sqlite::Row;
 use sqlite_value::value::ValueRef;
 
@@ -34,7 +36,7 @@ fn is_in_column(row: &Row, at: usize, value: &ValueRef<'_>) -> bool
 }
 
 /// Whether a row has these values. A row with a real number is not said to have them.
-pub fn is_row(row: &Row, values: &[ValueRef<'_>]) -> bool
+pub fn has_values(row: &Row, values: &[ValueRef<'_>]) -> bool
     ensures same { IsTrue result → row.now ≡ bound values.now }
     ensures whole { row.now ≡ bound values.now → has_real row.now ≡ false → IsTrue result }
 {
@@ -49,13 +51,23 @@ pub fn is_row(row: &Row, values: &[ValueRef<'_>]) -> bool
     true
 }
 
-/// Whether there is one row, and it has these values.
-pub(crate) fn is_only_row(rows: &[Row], values: &[ValueRef<'_>]) -> bool
-    ensures same { IsTrue result → rows.now ≡ bound values.now ∷ [] }
-    ensures whole { rows.now ≡ bound values.now ∷ [] → has_real (bound values.now) ≡ false → IsTrue result }
+/// Whether a row has the values of these cells. A row with a real number is not said to have them.
+pub fn is_row(row: &Row, cells: &[Cell]) -> bool
+    requires { length cells.now ≤ 11 }
+    ensures same { IsTrue result → row.now ≡ written cells.now }
+    ensures whole { row.now ≡ written cells.now → has_real row.now ≡ false → IsTrue result }
+{
+    has_values(row, &values_of(cells)[..cells.len()])
+}
+
+/// Whether there is one row, and it has the values of these cells.
+pub(crate) fn is_only_row(rows: &[Row], cells: &[Cell]) -> bool
+    requires { length cells.now ≤ 11 }
+    ensures same { IsTrue result → rows.now ≡ written cells.now ∷ [] }
+    ensures whole { rows.now ≡ written cells.now ∷ [] → has_real (written cells.now) ≡ false → IsTrue result }
 {
     match rows.split_first() {
-        Some((row, others)) => others.is_empty() && is_row(row, values),
+        Some((row, others)) => others.is_empty() && is_row(row, cells),
         None => false,
     }
 }

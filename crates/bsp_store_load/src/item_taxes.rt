@@ -1,7 +1,7 @@
 //! The table of the taxes of items: each row, put into a map.
 
 use crate::entries::put_new;
-use crate::equal::is_row;
+use crate::equal::has_values;
 use crate::load::StoredTable;
 use bsp_memory_rows::NoRoom;
 use bsp_rows::ItemKey;
@@ -51,7 +51,7 @@ impl StoredTable<ItemKey, ItemTax, BTreeMap<ItemKey, ItemTax>> for StoredTaxes {
         let Some((key, tax)) = read_item_tax(row) else {
             return Ok(false);
         };
-        if !is_row(row, &ItemTaxRow::of(&key, &tax).values()) {
+        if !has_values(row, &ItemTaxRow::of(&key, &tax).values()) {
             return Ok(false);
         }
         Ok(put_new(taxes, key, tax)?)

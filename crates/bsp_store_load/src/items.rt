@@ -12,7 +12,7 @@ ghost use Rattle.bsp_store_load.specs.Beside.{IsAwaited, IsKeyed, IsStoredItem, 
 ghost use Rattle.bsp_store_load.specs.Formed.{AreWhole};
 ghost use Rattle.bsp_store_load.specs.Adding.{taxed_added};
 
-use crate::equal::is_row;
+use crate::equal::has_values;
 use crate::formed::formed_item;
 use crate::load::StoredTable;
 use bsp_memory_rows::{NoRoom, Tables};
@@ -127,7 +127,7 @@ impl<'a> StoredTable<ItemKey, Item, TaxedTables> for StoredItems<'a> {
         let Some((key, item)) = self.read(&memory.taxes, row) else {
             return Ok(false);
         };
-        if !is_row(row, &ItemRow::of(&key, &item).values()) {
+        if !has_values(row, &ItemRow::of(&key, &item).values()) {
             return Ok(false);
         }
         memory.put(&key, &item)

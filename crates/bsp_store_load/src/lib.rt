@@ -33,7 +33,7 @@ pub use bsp_store_base::{ItemTax, TicketKey};
 pub use bsp_store_rows::{VERSION, read_version};
 pub use callers::{Agents, Ranges};
 pub use compared::plan_tables;
-pub use equal::is_row;
+pub use equal::{has_values, is_row};
 pub use first::has_nothing;
 pub use formed::{
     formed_agent, formed_airline, formed_closed, formed_day, formed_item, formed_memo,

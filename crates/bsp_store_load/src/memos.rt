@@ -6,7 +6,7 @@ use crate::load::StoredTable;
 use bsp_memory_rows::{NoRoom, Tables};
 use bsp_rows::{Memo, MemoKey};
 use bsp_store_base::KeyedTable;
-use bsp_store_rows::{MemoRow, Memos, read_memo};
+use bsp_store_rows::{Memos, memo_cells, read_memo};
 use sqlite::Row;
 
 /// Memos.
@@ -51,7 +51,7 @@ impl StoredTable<MemoKey, Memo, Tables> for StoredMemos {
             return Ok(false);
         };
         let key = MemoKey::of(memo.fields());
-        if !is_row(row, &MemoRow::of(&key, &memo).values()) {
+        if !is_row(row, &memo_cells(&key, &memo)) {
             return Ok(false);
         }
         if tables.memo(key).is_some() {

@@ -9,8 +9,8 @@ use crate::listed::{RowOf, are_placed_rows_of};
 use crate::plan_rows::ReadsAs;
 use bsp_rows::{CommissionTax, Period, Plan, Rate};
 use bsp_store_rows::{
-    CommissionTaxRow, MetaRow, PeriodRow, RateRow, TermsRow, read_commission_tax, read_period,
-    read_rate,
+    commission_tax_cells, meta_cells, period_cells, rate_cells, read_commission_tax, read_period,
+    read_rate, terms_cells,
 };
 use sqlite::Row;
 
@@ -31,7 +31,7 @@ impl RowOf<usize, Rate> for Rates {
     ghost has_row = { λ e. e.0 < 2 ^ 63 };
 
     fn is_row_of(&self, row: &Row, place: &usize, rate: &Rate) -> bool {
-        is_integer(*place) && is_row(row, &RateRow::of(*place, rate).values())
+        is_integer(*place) && is_row(row, &rate_cells(*place, rate))
     }
 }
 
@@ -53,7 +53,7 @@ impl RowOf<usize, Period> for Periods {
     ghost has_row = { λ e. e.0 < 2 ^ 63 };
 
     fn is_row_of(&self, row: &Row, place: &usize, period: &Period) -> bool {
-        is_integer(*place) && is_row(row, &PeriodRow::of(*place, period).values())
+        is_integer(*place) && is_row(row, &period_cells(*place, period))
     }
 }
 
@@ -75,7 +75,7 @@ impl RowOf<usize, CommissionTax> for CommissionTaxes {
     ghost has_row = { λ e. e.0 < 2 ^ 63 };
 
     fn is_row_of(&self, row: &Row, place: &usize, tax: &CommissionTax) -> bool {
-        is_integer(*place) && is_row(row, &CommissionTaxRow::of(*place, tax).values())
+        is_integer(*place) && is_row(row, &commission_tax_cells(*place, tax))
     }
 }
 
@@ -93,7 +93,7 @@ pub(crate) fn are_meta(rows: &[Row], plan: &Plan) -> bool
     ensures whole { length plan.now.closed < 2 ^ 63 → rows.now ≡ meta_rows (Some (record { day = plan.now.day; closed = length plan.now.closed })) → IsTrue result }
 {
     let closed = plan.closed_count();
-    is_integer(closed) && is_only_row(rows, &MetaRow::of(plan.day(), closed).values())
+    is_integer(closed) && is_only_row(rows, &meta_cells(plan.day(), closed))
 }
 
 /// Whether the rows are those of the plan's terms.
@@ -101,7 +101,7 @@ pub(crate) fn are_terms(rows: &[Row], plan: &Plan) -> bool
     ensures { IsTrue result ↔ (rows.now ≡ terms_rows plan.now.terms) }
 {
     match plan.terms() {
-        Some(terms) => is_only_row(rows, &TermsRow::of(&terms).values()),
+        Some(terms) => is_only_row(rows, &terms_cells(&terms)),
         None => rows.is_empty(),
     }
 }

@@ -10,7 +10,7 @@ ghost use Rattle.bsp_store_load.specs.Adding.{entry_added};
 ghost use Rattle.bsp_store_load.specs.Beside.{IsSecond};
 
 use crate::entries::put_new;
-use crate::equal::is_row;
+use crate::equal::has_values;
 use crate::load::StoredTable;
 use bsp_memory_rows::NoRoom;
 use bsp_memory_tables::ItemTable;
@@ -58,7 +58,7 @@ impl StoredTable<TicketKey, ReportedDocument, BTreeMap<TicketKey, ReportedDocume
         let Some((key, document)) = read_second(row) else {
             return Ok(false);
         };
-        if !is_row(row, &SecondRow::of(&key, &document).values()) {
+        if !has_values(row, &SecondRow::of(&key, &document).values()) {
             return Ok(false);
         }
         Ok(put_new(seconds, key, document)?)

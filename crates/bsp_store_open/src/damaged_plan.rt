@@ -9,8 +9,8 @@ use crate::search_end::{End, end_at_row};
 use bsp_memory_rows::Tables;
 use bsp_store_load::{PlanRows, is_row, plan_tables};
 use bsp_store_rows::{
-    AirlineRow, CommissionTaxRow, MetaRow, PeriodRow, RateRow, TermsRow, read_airline,
-    read_commission_tax, read_meta, read_period, read_rate, read_terms,
+    airline_cells, commission_tax_cells, meta_cells, period_cells, rate_cells, read_airline,
+    read_commission_tax, read_meta, read_period, read_rate, read_terms, terms_cells,
 };
 use sqlite::Row;
 use std::alloc::{AllocError, Global};
@@ -25,34 +25,34 @@ fn is_integer(count: usize) -> bool
 
 fn is_meta(row: &Row, _place: usize) -> bool {
     matches!(read_meta(row), Some((day, closed)) if is_integer(closed as usize)
-        && is_row(row, &MetaRow::of(day, closed as usize).values()))
+        && is_row(row, &meta_cells(day, closed as usize)))
 }
 
 fn is_terms(row: &Row, _place: usize) -> bool {
-    matches!(read_terms(row), Some(terms) if is_row(row, &TermsRow::of(&terms).values()))
+    matches!(read_terms(row), Some(terms) if is_row(row, &terms_cells(&terms)))
 }
 
 fn is_airline(row: &Row, _place: usize) -> bool {
     match read_airline(row) {
         Some((code, airline)) => airline.has_stored_place()
-            && is_row(row, &AirlineRow::of(code, &airline).values()),
+            && is_row(row, &airline_cells(code, &airline)),
         None => false,
     }
 }
 
 fn is_rate(row: &Row, place: usize) -> bool {
     matches!(read_rate(row), Some(rate) if is_integer(place)
-        && is_row(row, &RateRow::of(place, &rate).values()))
+        && is_row(row, &rate_cells(place, &rate)))
 }
 
 fn is_period(row: &Row, place: usize) -> bool {
     matches!(read_period(row), Some(period) if is_integer(place)
-        && is_row(row, &PeriodRow::of(place, &period).values()))
+        && is_row(row, &period_cells(place, &period)))
 }
 
 fn is_commission_tax(row: &Row, place: usize) -> bool {
     matches!(read_commission_tax(row), Some(tax) if is_integer(place)
-        && is_row(row, &CommissionTaxRow::of(place, &tax).values()))
+        && is_row(row, &commission_tax_cells(place, &tax)))
 }
 
 /// The first row of a table that no office writes in its place: it reads as no entry, or is not the row of that entry.

@@ -2,7 +2,7 @@
 
 ghost use Rattle.std.specs.Prelude.{◌≡◌};
 ghost use Rattle.std.specs.Option.{ForSome};
-ghost use Rattle.bsp_store_base.specs.Sqlite.{bound, or_null, Text};
+ghost use Rattle.bsp_store_base.specs.Sqlite.{or_null, Text};
 ghost use Rattle.bsp_store_base.specs.Base.{airline_row, count, HasStoredPlace};
 ghost use Rattle.bsp_store_rows.specs.Cells.{cell, written};
 
@@ -10,14 +10,7 @@ use crate::cells::{Cell, run};
 use bsp_rows::{AirlineCode, Token};
 use bsp_store_base::{AirlineEntry, KeyedTable, Statements, airline_digits, table};
 use sqlite::{Alter, Connection, Error};
-use sqlite_value::value::ValueRef;
 use std::marker::Model;
-
-/// The row of an airline that is published, registered, or both.
-#[derive(Clone, Copy)]
-pub struct AirlineRow {
-    cells: [Cell; 3],
-}
 
 fn place_cell(airline: &AirlineEntry) -> Cell
     requires { HasStoredPlace airline.now }
@@ -38,28 +31,16 @@ fn token_cell(token: Option<Token>) -> Cell
     }
 }
 
-impl AirlineRow {
-    /// The row of an airline.
-    pub fn of(code: AirlineCode, airline: &AirlineEntry) -> AirlineRow
-        requires { HasStoredPlace airline.now }
-        ensures { written result.cells ≡ airline_row (code, airline.now) }
-    {
-        AirlineRow {
-            cells: [
-                Cell::Three(airline_digits(code)),
-                place_cell(airline),
-                token_cell(airline.token),
-            ],
-        }
-    }
-
-    /// A value for each column.
-    pub fn values(&self) -> [ValueRef<'_>; 3]
-        ensures { bound result ≡ written self.now.cells }
-    {
-        let [code, place, token] = &self.cells;
-        [code.value(), place.value(), token.value()]
-    }
+/// The row of an airline.
+pub fn airline_cells(code: AirlineCode, airline: &AirlineEntry) -> [Cell; 3]
+    requires { HasStoredPlace airline.now }
+    ensures { written result ≡ airline_row (code, airline.now) }
+{
+    [
+        Cell::Three(airline_digits(code)),
+        place_cell(airline),
+        token_cell(airline.token),
+    ]
 }
 
 /// An airline whose place, if it has one, fits the integers of a store.
@@ -128,8 +109,7 @@ impl KeyedTable<AirlineCode, StoredAirline> for Airlines {
         text: &str,
         code: &AirlineCode,
     ) -> Result<usize, Error> {
-        let digits = airline_digits(*code);
-        run(conn, text, &[ValueRef::Text(&digits)])
+        run(conn, text, &[Cell::Three(airline_digits(*code))])
     }
 
     fn run_on_row<S: Alter>(
@@ -139,10 +119,6 @@ impl KeyedTable<AirlineCode, StoredAirline> for Airlines {
         code: &AirlineCode,
         airline: &StoredAirline,
     ) -> Result<usize, Error> {
-        run(
-            conn,
-            text,
-            &AirlineRow::of(*code, &airline.entry()).values(),
-        )
+        run(conn, text, &airline_cells(*code, &airline.entry()))
     }
 }

@@ -2,7 +2,6 @@
 //! values.
 
 ghost use Rattle.std.specs.Prelude.{◌≡◌};
-ghost use Rattle.sqlite.specs.Values.{bound};
 ghost use Rattle.bsp_store_base.specs.Columns.{agent_row, stock_row};
 ghost use Rattle.bsp_store_rows.specs.CallerReading.{agent_in, range_in};
 ghost use Rattle.bsp_store_rows.specs.Cells.{written};
@@ -13,31 +12,12 @@ use bsp_store_base::{
     KeyedTable, Statements, agent_at, agent_digits, number_at, number_digits, table, token_at,
 };
 use sqlite::{Alter, Connection, Error, Row};
-use sqlite_value::value::ValueRef;
 
-/// The texts of an agent's row.
-#[derive(Clone, Copy)]
-pub struct AgentRow {
-    cells: [Cell; 2],
-}
-
-impl AgentRow {
-    /// The row of an agent and its token.
-    pub fn of(code: AgentCode, token: &Token) -> AgentRow
-        ensures { written result.cells ≡ agent_row (code, token.now) }
-    {
-        AgentRow {
-            cells: [Cell::Eight(agent_digits(code)), Cell::Token(*token)],
-        }
-    }
-
-    /// The values of its columns.
-    pub fn values(&self) -> [ValueRef<'_>; 2]
-        ensures { bound result ≡ written self.now.cells }
-    {
-        let [code, token] = &self.cells;
-        [code.value(), token.value()]
-    }
+/// The row of an agent and its token.
+pub fn agent_cells(code: AgentCode, token: &Token) -> [Cell; 2]
+    ensures { written result ≡ agent_row (code, token.now) }
+{
+    [Cell::Eight(agent_digits(code)), Cell::Token(*token)]
 }
 
 /// The table of agents: their tokens.
@@ -67,8 +47,7 @@ impl KeyedTable<AgentCode, Token> for Agents {
         text: &str,
         code: &AgentCode,
     ) -> Result<usize, Error> {
-        let digits = agent_digits(*code);
-        run(conn, text, &[ValueRef::Text(&digits)])
+        run(conn, text, &[Cell::Eight(agent_digits(*code))])
     }
 
     fn run_on_row<S: Alter>(
@@ -78,37 +57,19 @@ impl KeyedTable<AgentCode, Token> for Agents {
         code: &AgentCode,
         token: &Token,
     ) -> Result<usize, Error> {
-        run(conn, text, &AgentRow::of(*code, token).values())
+        run(conn, text, &agent_cells(*code, token))
     }
 }
 
-/// The texts of the row of a range.
-#[derive(Clone, Copy)]
-pub struct RangeRow {
-    cells: [Cell; 3],
-}
-
-impl RangeRow {
-    /// The row of an agent's range, up to its last number.
-    pub fn of(key: &RangeKey, up_to: DocNumber) -> RangeRow
-        ensures { written result.cells ≡ stock_row (key.now, up_to) }
-    {
-        RangeRow {
-            cells: [
-                Cell::Eight(agent_digits(key.agent)),
-                Cell::Ten(number_digits(key.first)),
-                Cell::Ten(number_digits(up_to)),
-            ],
-        }
-    }
-
-    /// The values of its columns.
-    pub fn values(&self) -> [ValueRef<'_>; 3]
-        ensures { bound result ≡ written self.now.cells }
-    {
-        let [agent, first, last] = &self.cells;
-        [agent.value(), first.value(), last.value()]
-    }
+/// The row of an agent's range, up to its last number.
+pub fn range_cells(key: &RangeKey, up_to: DocNumber) -> [Cell; 3]
+    ensures { written result ≡ stock_row (key.now, up_to) }
+{
+    [
+        Cell::Eight(agent_digits(key.agent)),
+        Cell::Ten(number_digits(key.first)),
+        Cell::Ten(number_digits(up_to)),
+    ]
 }
 
 /// The table of ranges of stock: the last number of each, under its first.
@@ -138,13 +99,9 @@ impl KeyedTable<RangeKey, DocNumber> for Ranges {
         text: &str,
         key: &RangeKey,
     ) -> Result<usize, Error> {
-        let agent = agent_digits(key.agent);
-        let first = number_digits(key.first);
-        run(
-            conn,
-            text,
-            &[ValueRef::Text(&agent), ValueRef::Text(&first)],
-        )
+        let agent = Cell::Eight(agent_digits(key.agent));
+        let first = Cell::Ten(number_digits(key.first));
+        run(conn, text, &[agent, first])
     }
 
     fn run_on_row<S: Alter>(
@@ -154,7 +111,7 @@ impl KeyedTable<RangeKey, DocNumber> for Ranges {
         key: &RangeKey,
         up_to: &DocNumber,
     ) -> Result<usize, Error> {
-        run(conn, text, &RangeRow::of(key, *up_to).values())
+        run(conn, text, &range_cells(key, *up_to))
     }
 }
 

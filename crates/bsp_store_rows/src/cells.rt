@@ -1,9 +1,9 @@
 //! The values of a row, kept until they are bound to a statement.
 
-ghost use Rattle.std.specs.Prelude.{◌≡◌};
+ghost use Rattle.std.specs.Prelude.{◌≡◌, ◌≤◌, length, take};
 ghost use Rattle.bsp_store_base.specs.Sqlite.{bound, bound_value, owned};
 ghost use Rattle.bsp_store_base.specs.MapTables.{HasRun};
-ghost use Rattle.bsp_store_rows.specs.Cells.{cell};
+ghost use Rattle.bsp_store_rows.specs.Cells.{cell, written};
 
 use bsp_rows::{MemoKind, MemoState, Reason, Token};
 use sqlite::{Alter, Connection, Error};
@@ -11,16 +11,26 @@ use sqlite_value::value::ValueRef;
 
 /// What is written into a column. Digits of a code, and the text of a token or of a memo, are kept here.
 #[derive(Clone, Copy)]
-pub(crate) enum Cell {
+pub enum Cell {
+    /// NULL.
     Null,
+    /// An integer.
     Int(i64),
+    /// Three characters.
     Three([u8; 3]),
+    /// Five characters.
     Five([u8; 5]),
+    /// Eight characters.
     Eight([u8; 8]),
+    /// Ten characters.
     Ten([u8; 10]),
+    /// A token.
     Token(Token),
+    /// The code of the kind of a memo.
     Kind(MemoKind),
+    /// The reason of a memo.
     Reason(Reason),
+    /// The word for the state of a memo.
     State(MemoState),
 }
 
@@ -44,13 +54,26 @@ impl Cell {
     }
 }
 
-/// Runs a statement with these values.
+/// The values of eleven cells at the most, one for each, and NULL after them.
+pub fn values_of(cells: &[Cell]) -> [ValueRef<'_>; 11]
+    requires { length cells.now ≤ 11 }
+    ensures { bound (take (length cells.now) result) ≡ written cells.now }
+{
+    let mut values = [ValueRef::Null; 11];
+    for at in 0..cells.len() {
+        values[at] = cells[at].value();
+    }
+    values
+}
+
+/// Runs a statement with the values of cells.
 pub(crate) fn run<S: Alter>(
     conn: &mut Connection<S>,
     text: &str,
-    values: &[ValueRef<'_>],
+    cells: &[Cell],
 ) -> Result<usize, Error>
-    ensures { HasRun S.Store text.now (bound values.now) conn.old conn.new result }
+    requires { length cells.now ≤ 11 }
+    ensures { HasRun S.Store text.now (written cells.now) conn.old conn.new result }
 {
-    conn.execute(text, values)
+    conn.execute(text, &values_of(cells)[..cells.len()])
 }

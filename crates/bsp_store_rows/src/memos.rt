@@ -1,10 +1,10 @@
 //! The table of the memos, and a memo, read out of a row.
 
 ghost use Rattle.std.specs.Prelude.{◌≡◌, Some, true, IfSome};
-ghost use Rattle.bsp_store_base.specs.Sqlite.{bound, or_null};
+ghost use Rattle.bsp_store_base.specs.Sqlite.{or_null};
 ghost use Rattle.bsp_store_base.specs.Base.{IsMemoEntry, memo_row, period_text};
 ghost use Rattle.bsp_store_base.specs.Entries.{is_memo, memo_key, MemoFields as Fields};
-ghost use Rattle.bsp_store_rows.specs.Cells.{cell, memo_written};
+ghost use Rattle.bsp_store_rows.specs.Cells.{cell, written};
 ghost use Rattle.bsp_store_rows.specs.Reading.{HasValues};
 
 use crate::cells::{Cell, run};
@@ -17,22 +17,6 @@ use bsp_store_base::{
     KeyedTable, Statements, agent_digits, airline_digits, number_digits, period_digits, table,
 };
 use sqlite::{Alter, Connection, Error, Row};
-use sqlite_value::value::ValueRef;
-
-/// What is written of a memo: its key and its other codes in digits, and the rest of its fields.
-#[derive(Clone, Copy)]
-pub struct MemoRow {
-    airline: Cell,
-    number: Cell,
-    agent: Cell,
-    kind: Cell,
-    amount: Cell,
-    first_amount: Cell,
-    reason: Cell,
-    issued: Cell,
-    state: Cell,
-    billed: Cell,
-}
 
 fn billed_cell(billed: Option<PeriodCode>) -> Cell
     ensures { cell result ≡ or_null period_text billed }
@@ -43,43 +27,23 @@ fn billed_cell(billed: Option<PeriodCode>) -> Cell
     }
 }
 
-impl MemoRow {
-    /// What is written of a memo under its key.
-    pub fn of(key: &MemoKey, memo: &Memo) -> MemoRow
-        ensures { memo_written result ≡ memo_row (key.now, memo.now) }
-    {
-        let fields = *memo.fields();
-        MemoRow {
-            airline: Cell::Three(airline_digits(key.airline)),
-            number: Cell::Ten(number_digits(key.document)),
-            agent: Cell::Eight(agent_digits(fields.agent)),
-            kind: Cell::Kind(fields.kind),
-            amount: Cell::Int(fields.amount.get()),
-            first_amount: Cell::Int(fields.issued_amount.get()),
-            reason: Cell::Reason(fields.reason),
-            issued: Cell::Int(fields.issued.number()),
-            state: Cell::State(fields.state),
-            billed: billed_cell(fields.billed),
-        }
-    }
-
-    /// The values of the row, column by column.
-    pub fn values(&self) -> [ValueRef<'_>; 10]
-        ensures { bound result ≡ memo_written self.now }
-    {
-        [
-            self.airline.value(),
-            self.number.value(),
-            self.agent.value(),
-            self.kind.value(),
-            self.amount.value(),
-            self.first_amount.value(),
-            self.reason.value(),
-            self.issued.value(),
-            self.state.value(),
-            self.billed.value(),
-        ]
-    }
+/// The row of a memo under its key.
+pub fn memo_cells(key: &MemoKey, memo: &Memo) -> [Cell; 10]
+    ensures { written result ≡ memo_row (key.now, memo.now) }
+{
+    let fields = *memo.fields();
+    [
+        Cell::Three(airline_digits(key.airline)),
+        Cell::Ten(number_digits(key.document)),
+        Cell::Eight(agent_digits(fields.agent)),
+        Cell::Kind(fields.kind),
+        Cell::Int(fields.amount.get()),
+        Cell::Int(fields.issued_amount.get()),
+        Cell::Reason(fields.reason),
+        Cell::Int(fields.issued.number()),
+        Cell::State(fields.state),
+        billed_cell(fields.billed),
+    ]
 }
 
 /// The table of the memos.
@@ -109,13 +73,9 @@ impl KeyedTable<MemoKey, Memo> for Memos {
         text: &str,
         key: &MemoKey,
     ) -> Result<usize, Error> {
-        let airline = airline_digits(key.airline);
-        let number = number_digits(key.document);
-        run(
-            conn,
-            text,
-            &[ValueRef::Text(&airline), ValueRef::Text(&number)],
-        )
+        let airline = Cell::Three(airline_digits(key.airline));
+        let number = Cell::Ten(number_digits(key.document));
+        run(conn, text, &[airline, number])
     }
 
     fn run_on_row<S: Alter>(
@@ -125,7 +85,7 @@ impl KeyedTable<MemoKey, Memo> for Memos {
         key: &MemoKey,
         memo: &Memo,
     ) -> Result<usize, Error> {
-        run(conn, text, &MemoRow::of(key, memo).values())
+        run(conn, text, &memo_cells(key, memo))
     }
 }
 

@@ -1,15 +1,14 @@
 //! The tables of one row: `meta`, of the version of the tables and the business day, and that of the terms.
 
 ghost use Rattle.std.specs.Prelude.{◌≡◌, is_some, ◌<◌, ◌^◌, None, Some, OnOk, OnErr, ⊤};
-ghost use Rattle.bsp_store_base.specs.Sqlite.{bound, HasCleanDisk, state, Survives};
+ghost use Rattle.bsp_store_base.specs.Sqlite.{HasCleanDisk, state, Survives};
 ghost use Rattle.bsp_store_base.specs.Base.{Changes, Content, form, GivesUp, Keeps, KeepsSound, meta_part, meta_row, ShowsTable, terms_part, terms_row};
 ghost use Rattle.bsp_store_rows.specs.Cells.{written};
 
-use crate::cells::Cell;
+use crate::cells::{Cell, run, values_of};
 use bsp_rows::{Day, Terms};
 use bsp_store_base::table;
 use sqlite::{Alter, Connection, Error, ErrorCode, Transaction};
-use sqlite_value::value::ValueRef;
 
 /// The version of the tables.
 pub const VERSION: i64 = 3;
@@ -26,35 +25,17 @@ const ADD_TERMS: &str = table!(terms, insert);
 
 const ALL_TERMS: &str = table!(terms, all);
 
-/// The row of the business day and of how many periods are closed.
-#[derive(Clone, Copy)]
-pub struct MetaRow {
-    cells: [Cell; 4],
-}
-
-impl MetaRow {
-    /// The row of a day and a number of closed periods.
-    pub fn of(day: Day, closed: usize) -> MetaRow
-        requires { closed < 2 ^ 63 }
-        ensures { written result.cells ≡ meta_row (record { day = day; closed = closed }) }
-    {
-        MetaRow {
-            cells: [
-                Cell::Int(1),
-                Cell::Int(VERSION),
-                Cell::Int(day.number()),
-                Cell::Int(closed as i64),
-            ],
-        }
-    }
-
-    /// A value for each column.
-    pub fn values(&self) -> [ValueRef<'_>; 4]
-        ensures { bound result ≡ written self.now.cells }
-    {
-        let [id, version, day, closed] = &self.cells;
-        [id.value(), version.value(), day.value(), closed.value()]
-    }
+/// The row of a day and a number of closed periods.
+pub fn meta_cells(day: Day, closed: usize) -> [Cell; 4]
+    requires { closed < 2 ^ 63 }
+    ensures { written result ≡ meta_row (record { day = day; closed = closed }) }
+{
+    [
+        Cell::Int(1),
+        Cell::Int(VERSION),
+        Cell::Int(day.number()),
+        Cell::Int(closed as i64),
+    ]
 }
 
 /// Adds the row of a book without closed periods, where the table has none. The transaction stays open, and nothing is
@@ -68,8 +49,8 @@ pub fn add_first_meta<S: Alter>(tx: &mut Transaction<'_, S>, day: Day) -> Result
     ensures added { OnOk result (HasCleanDisk (state S.Store tx.new.conn.now) → (now : Content) → now.meta ≡ None → Keeps form now (state S.Store tx.old.conn.now).now → KeepsSound form (record now { meta = Some (record { day = day; closed = 0 }) }) (state S.Store tx.new.conn.now).now) }
     ensures survives { Survives (state S.Store tx.old.conn.now) (state S.Store tx.new.conn.now) (λ _. ⊥) }
 {
-    let row = MetaRow::of(day, 0);
-    tx.execute(ADD, &row.values())?;
+    let cells = meta_cells(day, 0);
+    tx.execute(ADD, &values_of(&cells)[..cells.len()])?;
     Ok(())
 }
 
@@ -91,9 +72,8 @@ pub fn put_meta<S: Alter>(
     if closed > i64::MAX as usize {
         return Err(Error::SqliteFailure(ErrorCode::TooBig));
     }
-    let row = MetaRow::of(day, closed);
     let text = if is_there { SET } else { ADD };
-    conn.execute(text, &row.values())?;
+    run(conn, text, &meta_cells(day, closed))?;
     Ok(())
 }
 
@@ -104,39 +84,16 @@ pub fn meta_query() -> &'static str
     ALL
 }
 
-/// The row of the terms of the market.
-#[derive(Clone, Copy)]
-pub struct TermsRow {
-    cells: [Cell; 4],
-}
-
-impl TermsRow {
-    /// The row of these terms.
-    pub fn of(terms: &Terms) -> TermsRow
-        ensures { written result.cells ≡ terms_row terms.now }
-    {
-        TermsRow {
-            cells: [
-                Cell::Int(1),
-                Cell::Three(terms.currency.letters()),
-                Cell::Int(terms.review_days as i64),
-                Cell::Int(terms.documents_limit as i64),
-            ],
-        }
-    }
-
-    /// A value for each column.
-    pub fn values(&self) -> [ValueRef<'_>; 4]
-        ensures { bound result ≡ written self.now.cells }
-    {
-        let [id, currency, review, documents] = &self.cells;
-        [
-            id.value(),
-            currency.value(),
-            review.value(),
-            documents.value(),
-        ]
-    }
+/// The row of these terms.
+pub fn terms_cells(terms: &Terms) -> [Cell; 4]
+    ensures { written result ≡ terms_row terms.now }
+{
+    [
+        Cell::Int(1),
+        Cell::Three(terms.currency.letters()),
+        Cell::Int(terms.review_days as i64),
+        Cell::Int(terms.documents_limit as i64),
+    ]
 }
 
 /// Writes the terms of the market, or that there are none.
@@ -152,7 +109,7 @@ pub fn put_terms<S: Alter>(conn: &mut Connection<S>, terms: Option<Terms>) -> Re
     let Some(terms) = terms else {
         return Ok(());
     };
-    conn.execute(ADD_TERMS, &TermsRow::of(&terms).values())?;
+    run(conn, ADD_TERMS, &terms_cells(&terms))?;
     Ok(())
 }
 

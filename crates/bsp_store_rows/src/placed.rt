@@ -2,7 +2,6 @@
 //! plan: rates of commission, periods and taxes on commission.
 
 ghost use Rattle.std.specs.Prelude.{◌≡◌, ◌<◌, ◌^◌, length, OnErr, OnOk};
-ghost use Rattle.sqlite.specs.Values.{bound};
 ghost use Rattle.bsp_store_base.specs.Base.{Changes, commission_tax_row, GivesUpIf, period_row, rate_row};
 ghost use Rattle.bsp_store_rows.specs.Cells.{written};
 ghost use Rattle.bsp_store_rows.specs.PlacedTables.{has_first, with_all};
@@ -11,7 +10,6 @@ use crate::cells::{Cell, run};
 use bsp_rows::{CommissionTax, Period, Rate};
 use bsp_store_base::{airline_digits, period_digits, table};
 use sqlite::{Alter, Connection, Error};
-use sqlite_value::value::ValueRef;
 
 /// The statements that write and read the rows of a table.
 #[derive(Clone, Copy)]
@@ -74,40 +72,17 @@ pub fn add_all<A: Copy, T: PlacedTable<A>, S: Alter>(
     Ok(())
 }
 
-/// The row of a rate of commission at its place.
-#[derive(Clone, Copy)]
-pub struct RateRow {
-    cells: [Cell; 4],
-}
-
-impl RateRow {
-    /// The row of a rate at a place, counted from 1.
-    pub fn of(place: usize, rate: &Rate) -> RateRow
-        requires { place < 2 ^ 63 }
-        ensures { written result.cells ≡ rate_row (place, rate.now) }
-    {
-        RateRow {
-            cells: [
-                Cell::Three(airline_digits(rate.airline)),
-                Cell::Int(rate.from.number()),
-                Cell::Int(place as i64),
-                Cell::Int(rate.hundredths as i64),
-            ],
-        }
-    }
-
-    /// A value for each column.
-    pub fn values(&self) -> [ValueRef<'_>; 4]
-        ensures { bound result ≡ written self.now.cells }
-    {
-        let [airline, begins, place, hundredths] = &self.cells;
-        [
-            airline.value(),
-            begins.value(),
-            place.value(),
-            hundredths.value(),
-        ]
-    }
+/// The row of a rate at a place, counted from 1.
+pub fn rate_cells(place: usize, rate: &Rate) -> [Cell; 4]
+    requires { place < 2 ^ 63 }
+    ensures { written result ≡ rate_row (place, rate.now) }
+{
+    [
+        Cell::Three(airline_digits(rate.airline)),
+        Cell::Int(rate.from.number()),
+        Cell::Int(place as i64),
+        Cell::Int(rate.hundredths as i64),
+    ]
 }
 
 /// The table of the commission rates.
@@ -133,46 +108,22 @@ impl PlacedTable<Rate> for Rates {
         place: usize,
         rate: &Rate,
     ) -> Result<usize, Error> {
-        run(conn, text, &RateRow::of(place, rate).values())
+        run(conn, text, &rate_cells(place, rate))
     }
 }
 
-/// The row of a billing period at its place.
-#[derive(Clone, Copy)]
-pub struct PeriodRow {
-    cells: [Cell; 5],
-}
-
-impl PeriodRow {
-    /// The row of a period at a place, counted from 1.
-    pub fn of(place: usize, period: &Period) -> PeriodRow
-        requires { place < 2 ^ 63 }
-        ensures { written result.cells ≡ period_row (place, period.now) }
-    {
-        PeriodRow {
-            cells: [
-                Cell::Five(period_digits(period.code)),
-                Cell::Int(place as i64),
-                Cell::Int(period.first.number()),
-                Cell::Int(period.last.number()),
-                Cell::Int(period.remittance.number()),
-            ],
-        }
-    }
-
-    /// A value for each column.
-    pub fn values(&self) -> [ValueRef<'_>; 5]
-        ensures { bound result ≡ written self.now.cells }
-    {
-        let [code, place, begins, ends, remit] = &self.cells;
-        [
-            code.value(),
-            place.value(),
-            begins.value(),
-            ends.value(),
-            remit.value(),
-        ]
-    }
+/// The row of a period at a place, counted from 1.
+pub fn period_cells(place: usize, period: &Period) -> [Cell; 5]
+    requires { place < 2 ^ 63 }
+    ensures { written result ≡ period_row (place, period.now) }
+{
+    [
+        Cell::Five(period_digits(period.code)),
+        Cell::Int(place as i64),
+        Cell::Int(period.first.number()),
+        Cell::Int(period.last.number()),
+        Cell::Int(period.remittance.number()),
+    ]
 }
 
 /// The table of the periods.
@@ -198,38 +149,20 @@ impl PlacedTable<Period> for Periods {
         place: usize,
         period: &Period,
     ) -> Result<usize, Error> {
-        run(conn, text, &PeriodRow::of(place, period).values())
+        run(conn, text, &period_cells(place, period))
     }
 }
 
-/// The row of a tax on commission at its place.
-#[derive(Clone, Copy)]
-pub struct CommissionTaxRow {
-    cells: [Cell; 3],
-}
-
-impl CommissionTaxRow {
-    /// The row of a tax at a place, counted from 1.
-    pub fn of(place: usize, tax: &CommissionTax) -> CommissionTaxRow
-        requires { place < 2 ^ 63 }
-        ensures { written result.cells ≡ commission_tax_row (place, tax.now) }
-    {
-        CommissionTaxRow {
-            cells: [
-                Cell::Int(tax.from.number()),
-                Cell::Int(place as i64),
-                Cell::Int(tax.hundredths as i64),
-            ],
-        }
-    }
-
-    /// A value for each column.
-    pub fn values(&self) -> [ValueRef<'_>; 3]
-        ensures { bound result ≡ written self.now.cells }
-    {
-        let [begins, place, hundredths] = &self.cells;
-        [begins.value(), place.value(), hundredths.value()]
-    }
+/// The row of a tax at a place, counted from 1.
+pub fn commission_tax_cells(place: usize, tax: &CommissionTax) -> [Cell; 3]
+    requires { place < 2 ^ 63 }
+    ensures { written result ≡ commission_tax_row (place, tax.now) }
+{
+    [
+        Cell::Int(tax.from.number()),
+        Cell::Int(place as i64),
+        Cell::Int(tax.hundredths as i64),
+    ]
 }
 
 /// The table of the taxes on commission.
@@ -255,6 +188,6 @@ impl PlacedTable<CommissionTax> for CommissionTaxes {
         place: usize,
         tax: &CommissionTax,
     ) -> Result<usize, Error> {
-        run(conn, text, &CommissionTaxRow::of(place, tax).values())
+        run(conn, text, &commission_tax_cells(place, tax))
     }
 }

@@ -1,74 +1,48 @@
 //! The table of the tallies, and the key of a tally, read out of a row.
 
 ghost use Rattle.std.specs.Prelude.{◌≡◌};
-ghost use Rattle.sqlite.specs.Values.{bound};
-ghost use Rattle.bsp_store_base.specs.Columns.{tally_row};
+ghost use Rattle.bsp_store_base.specs.Columns.{count, tally_row};
+ghost use Rattle.bsp_store_base.specs.Sqlite.{Int};
 ghost use Rattle.bsp_store_rows.specs.CallerReading.{tally_key_in};
-ghost use Rattle.bsp_store_rows.specs.Cells.{tally_written};
+ghost use Rattle.bsp_store_rows.specs.Cells.{cell, written};
 
-use crate::cells::run;
+use crate::cells::{Cell, run};
 use bsp_rows::{Tally, TallyKey};
 use bsp_store_base::{
     KeyedTable, Statements, agent_at, agent_digits, airline_at, airline_digits, period_at,
     period_digits, table,
 };
 use sqlite::{Alter, Connection, Error, Row};
-use sqlite_value::value::ValueRef;
 
-/// What is written of a tally: its key in digits, its counts and its sums, the tax apart.
-#[derive(Clone, Copy)]
-pub struct TallyRow {
-    agent: [u8; 8],
-    airline: [u8; 3],
-    period: [u8; 5],
-    accepted: u32,
-    living: u32,
-    canx: u32,
-    memo_count: u32,
-    cash: i64,
-    credit: i64,
-    commission: i64,
-    memos: i64,
+fn count_cell(number: u32) -> Cell
+    ensures { cell result ≡ count number }
+{
+    Cell::Int(number as i64)
 }
 
-impl TallyRow {
-    /// What is written of a tally under its key.
-    pub fn of(key: &TallyKey, tally: &Tally) -> TallyRow
-        ensures { tally_written result ≡ tally_row (key.now, tally.now) }
-    {
-        TallyRow {
-            agent: agent_digits(key.agent),
-            airline: airline_digits(key.airline),
-            period: period_digits(key.period),
-            accepted: tally.accepted,
-            living: tally.living,
-            canx: tally.canx,
-            memo_count: tally.memo_count,
-            cash: tally.cash,
-            credit: tally.credit,
-            commission: tally.commission,
-            memos: tally.memos,
-        }
-    }
+fn sum_cell(sum: &i64) -> Cell
+    ensures { cell result ≡ Int sum.now }
+{
+    Cell::Int(*sum)
+}
 
-    /// The values of the row, column by column.
-    pub fn values(&self) -> [ValueRef<'_>; 11]
-        ensures { bound result ≡ tally_written self.now }
-    {
-        [
-            ValueRef::Text(&self.agent),
-            ValueRef::Text(&self.airline),
-            ValueRef::Text(&self.period),
-            ValueRef::Int(self.accepted as i64),
-            ValueRef::Int(self.living as i64),
-            ValueRef::Int(self.canx as i64),
-            ValueRef::Int(self.memo_count as i64),
-            ValueRef::Int(self.cash),
-            ValueRef::Int(self.credit),
-            ValueRef::Int(self.commission),
-            ValueRef::Int(self.memos),
-        ]
-    }
+/// The row of a tally under its key, its tax apart.
+pub fn tally_cells(key: &TallyKey, tally: &Tally) -> [Cell; 11]
+    ensures { written result ≡ tally_row (key.now, tally.now) }
+{
+    [
+        Cell::Eight(agent_digits(key.agent)),
+        Cell::Three(airline_digits(key.airline)),
+        Cell::Five(period_digits(key.period)),
+        count_cell(tally.accepted),
+        count_cell(tally.living),
+        count_cell(tally.canx),
+        count_cell(tally.memo_count),
+        sum_cell(&tally.cash),
+        sum_cell(&tally.credit),
+        sum_cell(&tally.commission),
+        sum_cell(&tally.memos),
+    ]
 }
 
 /// The table of the tallies, their taxes apart.
@@ -98,18 +72,10 @@ impl KeyedTable<TallyKey, Tally> for Tallies {
         text: &str,
         key: &TallyKey,
     ) -> Result<usize, Error> {
-        let agent = agent_digits(key.agent);
-        let airline = airline_digits(key.airline);
-        let period = period_digits(key.period);
-        run(
-            conn,
-            text,
-            &[
-                ValueRef::Text(&agent),
-                ValueRef::Text(&airline),
-                ValueRef::Text(&period),
-            ],
-        )
+        let agent = Cell::Eight(agent_digits(key.agent));
+        let airline = Cell::Three(airline_digits(key.airline));
+        let period = Cell::Five(period_digits(key.period));
+        run(conn, text, &[agent, airline, period])
     }
 
     fn run_on_row<S: Alter>(
@@ -119,7 +85,7 @@ impl KeyedTable<TallyKey, Tally> for Tallies {
         key: &TallyKey,
         tally: &Tally,
     ) -> Result<usize, Error> {
-        run(conn, text, &TallyRow::of(key, tally).values())
+        run(conn, text, &tally_cells(key, tally))
     }
 }
 

@@ -6,6 +6,7 @@ use Rattle.bsp_store_rows.specs.CallerReading.{agent_in}
 use Rattle.bsp_store_rows.proofs.CallerBack.{agent_back}
 use Rattle.bsp_store_load.specs.Formed.{AreFormed}
 use Rattle.bsp_store_load.proofs.FormedContent.{agent_formed}
+use Rattle.bsp_store_rows.specs.Cells.{written}
 use Rattle.bsp_store_load.proofs.RowReads.{none_found, not_none, own_is, not_refused}
 use Rattle.bsp_store_load.proofs.callers.AgentsStoredTableAgentCodeTokenTables.put.Goals as goal
 
@@ -16,7 +17,7 @@ returns-in_default-clause-entry c = λ e fits lacks is.
 pub returns-then-not-is_row-clause-entry : goal.returns-then-not-is_row-clause-entry
 returns-then-not-is_row-clause-entry c = λ e fits lacks is.
     let some = c.read_agent.ensures ∙ ap agent_in is ∙ agent_back e.0 e.1 fits.agent.has_digits fits.agent.is_checked fits.token in
-    absurd (not_refused agent_row c.args.row.now c.read_agent.result e some (c.in-Some.agent, c.in-Some.token) c.in-Some.is is c.values.result (search rules) refl _ c.if-not-is_row.true c.is_row.ensures.whole)
+    absurd (not_refused agent_row c.args.row.now c.read_agent.result e some (c.in-Some.agent, c.in-Some.token) c.in-Some.is is (written c.agent_cells.result) (search rules) refl _ c.if-not-is_row.true c.is_row.ensures.whole)
 
 pub returns-then-is_some-clause-entry : goal.returns-then-is_some-clause-entry
 returns-then-is_some-clause-entry c = λ e fits lacks is.

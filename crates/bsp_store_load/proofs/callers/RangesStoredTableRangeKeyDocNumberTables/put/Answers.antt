@@ -5,6 +5,7 @@ use Rattle.bsp_memory_tables.specs.RangeTables.{range_rows}
 use Rattle.bsp_store_base.proofs.Base.{IsRangeEntry, stock_row}
 use Rattle.bsp_store_load.specs.Formed.{AreFormed}
 use Rattle.bsp_store_load.proofs.FormedContent.{range_formed}
+use Rattle.bsp_store_rows.specs.Cells.{written}
 use Rattle.bsp_store_load.proofs.RowReads.{found_none, none_found, not_none, own_is, not_refused}
 use Rattle.sqlite_value.specs.Order.{Row}
 use Rattle.bsp_store_rows.specs.CallerReading.{range_in}
@@ -21,7 +22,7 @@ returns-in_default-clause-entry c = λ e fits lacks is. absurd (not_none stock_r
 pub returns-then-not-is_row-clause-entry : goal.returns-then-not-is_row-clause-entry
 returns-then-not-is_row-clause-entry c = λ e fits lacks is.
     let some = range_is c.args.row.now c.read_range.result e c.read_range.ensures fits is in
-    absurd (not_refused stock_row c.args.row.now c.read_range.result e some (c.in-Some.key, c.in-Some.last) c.in-Some.is is c.values.result (c.values.ensures ∙ c.of.ensures) refl _ c.if-not-is_row.true c.is_row.ensures.whole)
+    absurd (not_refused stock_row c.args.row.now c.read_range.result e some (c.in-Some.key, c.in-Some.last) c.in-Some.is is (written c.range_cells.result) c.range_cells.ensures refl _ c.if-not-is_row.true c.is_row.ensures.whole)
 
 pub returns-then-is_some-clause-entry : goal.returns-then-is_some-clause-entry
 returns-then-is_some-clause-entry c = λ e fits lacks is.
@@ -32,7 +33,7 @@ returns-then-is_some-clause-entry c = λ e fits lacks is.
 
 pub returns-clause-row : goal.returns-clause-row
 returns-clause-row c = λ t.
-    let row_is = c.is_row.ensures.same c.if-not-is_row.false ∙ c.values.ensures ∙ c.of.ensures in
+    let row_is = c.is_row.ensures.same c.if-not-is_row.false ∙ c.range_cells.ensures in
     let none = found_none c.get.result c.is_some.result c.is_some.ensures c.if-is_some.false in
     let at : c.get.result ≡ get (rows_of c.args.tables.now).ranges c.in-Some.key = c.get.ensures ∙ ap (λ t. get (range_rows t) c.in-Some.key) c.range_table.ensures in
     ((c.in-Some.key, c.in-Some.last), row_is, sym at ∙ none, c.commit.ensures.rows ∙ c.in_ok-add_range.ensures.ok ∙ ap (λ r. with_range c.in-Some.key.agent r (rows_of c.args.tables.now)) c.up_to.ensures)

@@ -4,6 +4,7 @@ use Rattle.bsp_memory_rows.specs.Tables.{rows_of}
 use Rattle.bsp_store_base.specs.Columns.{item_row}
 use Rattle.bsp_store_load.specs.Beside.{IsAwaited, IsKeyed, Taxed, kept_tax}
 use Rattle.bsp_store_load.proofs.PlainRows.{plain_item}
+use Rattle.bsp_store_base.specs.Sqlite.{bound}
 use Rattle.bsp_store_load.proofs.RowReads.{not_none, own_is, not_refused}
 use Rattle.bsp_store_load.proofs.TaxedLemmas.{awaited, if_all, is_stored, lacks_item, now_put, put_taxed}
 use Rattle.bsp_store_load.specs.declared.items.TaxedTables.{TaxedTables}
@@ -13,9 +14,9 @@ pub returns-in_default-clause-entry : goal.returns-in_default-clause-entry
 returns-in_default-clause-entry c = λ e fits lacks is.
     absurd (not_none item_row c.args.row.now c.read.result e (c.read.ensures.entry e (is_stored _ _ e _ fits lacks) is) c.in_default.is)
 
-pub returns-then-not-is_row-clause-entry : goal.returns-then-not-is_row-clause-entry
-returns-then-not-is_row-clause-entry c = λ e fits lacks is.
-    absurd (not_refused item_row c.args.row.now c.read.result e (c.read.ensures.entry e (is_stored _ _ e _ fits lacks) is) (c.in-Some.key, c.in-Some.item) c.in-Some.is is c.values.result (c.values.ensures ∙ c.of.ensures) (plain_item e) _ c.if-not-is_row.true c.is_row.ensures.whole)
+pub returns-then-not-has_values-clause-entry : goal.returns-then-not-has_values-clause-entry
+returns-then-not-has_values-clause-entry c = λ e fits lacks is.
+    absurd (not_refused item_row c.args.row.now c.read.result e (c.read.ensures.entry e (is_stored _ _ e _ fits lacks) is) (c.in-Some.key, c.in-Some.item) c.in-Some.is is (bound c.values.result) (c.values.ensures ∙ c.of.ensures) (plain_item e) _ c.if-not-has_values.true c.has_values.ensures.whole)
 
 pub put-requires : goal.put-requires
 put-requires c = subst (λ o. IfSome o IsKeyed) c.in-Some.is c.read.ensures.keyed
@@ -32,7 +33,7 @@ returns-clause-row c =
     let left = from_entries {R = item_cmp} c.args.memory.now.taxes.entries in
     let rows = rows_of c.args.memory.now.tables in
     let e : ItemKey × Item = (c.in-Some.key, c.in-Some.item) in
-    let row_is = c.is_row.ensures.same c.if-not-is_row.false ∙ c.values.ensures ∙ c.of.ensures in
+    let row_is = c.has_values.ensures.same c.if-not-has_values.false ∙ c.values.ensures ∙ c.of.ensures in
     let own = subst (λ o. IfSome o IsKeyed) c.in-Some.is c.read.ensures.keyed in
     if_all _ _ _ _ c.put.result c.put.ensures.lacks c.put.ensures.rows c.put.ensures.taxes (λ done lacks put out t.
     let it = lacks.0 t in

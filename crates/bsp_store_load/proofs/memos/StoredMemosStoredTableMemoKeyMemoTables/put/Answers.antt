@@ -1,5 +1,6 @@
 use Rattle.bsp_store_base.proofs.Std.{◌∙◌, ◌≡◌, ap, both_ways, get, None, Option, refl, rules, Some, subst, sym, true}
-use Rattle.bsp_store_base.proofs.Sqlite.{bound, Row}
+use Rattle.bsp_store_base.proofs.Sqlite.{Row}
+use Rattle.bsp_store_rows.specs.Cells.{written}
 use Rattle.bsp_store_base.proofs.Entries.{is_memo, memo_key, MemoFields, MemoKey, same_Some, with_memo}
 use Rattle.bsp_memory_rows.specs.Tables.{rows_of}
 use Rattle.bsp_store_base.proofs.Base.{IsMemoEntry, memo_row}
@@ -39,7 +40,7 @@ pub returns-then-not-is_row-clause-entry : goal.returns-then-not-is_row-clause-e
 returns-then-not-is_row-clause-entry c = λ e fits lacks is.
     let same = memo_same c.args.row.now c.read_memo.result e c.read_memo.ensures.back fits is c.in-Some.memo c.in-Some.is in
     let key : c.of-key.result ≡ memo_key c.in-Some.memo = search rules in
-    let texts : bound c.values.result ≡ memo_row (c.of-key.result, c.in-Some.memo) = search rules in
+    let texts : written c.memo_cells.result ≡ memo_row (c.of-key.result, c.in-Some.memo) = search rules in
     let own : c.args.row.now ≡ memo_row (c.of-key.result, c.in-Some.memo) = is ∙ (λ i. memo_row (sym (key ∙ ap memo_key same ∙ lacks.0) i, sym same i)) in
     let fine = c.is_row.ensures.whole (own ∙ sym texts) (ap has_real is ∙ plain_memo e) in
     absurd (both_ways _ c.if-not-is_row.true fine)
@@ -53,7 +54,7 @@ returns-then-is_some-clause-entry c = λ e fits lacks is.
 pub returns-clause-row : goal.returns-clause-row
 returns-clause-row c = λ t.
     let key : c.of-key.result ≡ memo_key c.in-Some.memo = search rules in
-    let texts : bound c.values.result ≡ memo_row (c.of-key.result, c.in-Some.memo) = search rules in
+    let texts : written c.memo_cells.result ≡ memo_row (c.of-key.result, c.in-Some.memo) = search rules in
     let none = found_none c.memo.result c.is_some.result c.is_some.ensures c.if-is_some.false in
     let put : rows_of c.put_memo.new.self ≡ with_memo c.in-Some.memo (rows_of c.args.tables.now) = search rules in
     ((c.of-key.result, c.in-Some.memo), c.is_row.ensures.same c.if-not-is_row.false ∙ texts, (sym key, sym c.memo.ensures ∙ none), c.commit.ensures.rows ∙ put)

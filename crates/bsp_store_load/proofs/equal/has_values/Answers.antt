@@ -1,7 +1,7 @@
 use Rattle.bsp_store_base.proofs.Std.{◌+◌, ◌<◌, ◌∙◌, ◌≡◌, ◌≤◌, arith, get_or, get_or-map, length, length-map, List, sym, take, take_all, take_more_same, ℕ}
 use Rattle.bsp_store_base.specs.Sqlite.{bound, bound_value, column, Null, owned, Row}
 use Rattle.sqlite_value.specs.declared.value.ValueRef.{ValueRef}
-use Rattle.bsp_store_load.proofs.equal.is_row.Goals as goal
+use Rattle.bsp_store_load.proofs.equal.has_values.Goals as goal
 
 -- the columns of a row, one after another
 long : (values : List ValueRef) → length (bound values) ≡ length values
