@@ -13,15 +13,15 @@ use std::alloc::{AllocError, Global};
 
 /// What a file is judged over, and the book that its desk leaves.
 #[derive(Clone, Copy)]
-pub(crate) struct Known<'k> {
+pub struct Known<'k> {
     /// The agent that reports.
-    pub(crate) agent: AgentCode,
+    pub agent: AgentCode,
     /// Its ranges, in the order of their allotment.
-    pub(crate) stock: &'k [Range],
+    pub stock: &'k [Range],
     /// The business day.
-    pub(crate) day: Day,
+    pub day: Day,
     /// The book after the file.
-    pub(crate) book: &'k ListBook,
+    pub book: &'k ListBook,
 }
 
 /// The number of a document whose check digit is wrong.
@@ -372,7 +372,7 @@ fn say_line(
 /// # Errors
 ///
 /// `AllocError`, where an allocation was refused.
-pub(crate) fn remarks_on(
+pub fn remarks_on(
     alloc: Global,
     known: &Known<'_>,
     file: &RetFile<'_>,
