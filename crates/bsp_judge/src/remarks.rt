@@ -13,15 +13,15 @@ use std::alloc::{AllocError, Global};
 
 /// What a file is judged over, and the book that its desk leaves.
 #[derive(Clone, Copy)]
-pub struct Known<'k> {
+pub(crate) struct Known<'k> {
     /// The agent that reports.
-    pub agent: AgentCode,
+    pub(crate) agent: AgentCode,
     /// Its ranges, in the order of their allotment.
-    pub stock: &'k [Range],
+    pub(crate) stock: &'k [Range],
     /// The business day.
-    pub day: Day,
+    pub(crate) day: Day,
     /// The book after the file.
-    pub book: &'k ListBook,
+    pub(crate) book: &'k ListBook,
 }
 
 /// The number of a document whose check digit is wrong.
@@ -372,7 +372,7 @@ fn say_line(
 /// # Errors
 ///
 /// `AllocError`, where an allocation was refused.
-pub fn remarks_on(
+pub(crate) fn remarks_on(
     alloc: Global,
     known: &Known<'_>,
     file: &RetFile<'_>,

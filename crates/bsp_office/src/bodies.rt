@@ -9,8 +9,7 @@ use bsp_desk::Asking;
 use bsp_explain::{Words, explain_ret};
 use bsp_fields::NoRoom;
 use bsp_http::Routes;
-use bsp_plan_reasons::refusal_reason;
-use bsp_plan_trial::PlanRefused;
+use bsp_plan_trial::{PlanRefused, refusal_reason};
 use bsp_routes::{Call, Methods};
 
 /// Says why a plan text is refused.

@@ -7,8 +7,7 @@ use bsp_calendar::Plan;
 use bsp_check::{DONE, REFUSED};
 use bsp_explain::Words;
 use bsp_fields::Day;
-use bsp_plan_reasons::refusal_reason;
-use bsp_plan_trial::{PlanRefused, plan_text, try_plan};
+use bsp_plan_trial::{PlanRefused, plan_text, refusal_reason, try_plan};
 use bsp_store::plan_at;
 use sqlite::Wary;
 

@@ -1,6 +1,6 @@
 //! The values of a row, kept until they are bound to a statement.
 
-ghost use Rattle.std.specs.Prelude.{◌≡◌, ◌≤◌, length, take};
+ghost use Rattle.std.specs.Prelude.{◌≡◌, ◌≤◌, ◌-◌, drop, length, replicate, take};
 ghost use Rattle.bsp_store_base.specs.Sqlite.{bound, bound_value, owned};
 ghost use Rattle.bsp_store_base.specs.MapTables.{HasRun};
 ghost use Rattle.bsp_store_rows.specs.Cells.{cell, written};
@@ -57,7 +57,8 @@ impl Cell {
 /// The values of eleven cells at the most, one for each, and NULL after them.
 pub fn values_of(cells: &[Cell]) -> [ValueRef<'_>; 11]
     requires { length cells.now ≤ 11 }
-    ensures { bound (take (length cells.now) result) ≡ written cells.now }
+    ensures values { bound (take (length cells.now) result) ≡ written cells.now }
+    ensures rest { drop (length cells.now) result ≡ replicate (11 - length cells.now) ValueRef.Null }
 {
     let mut values = [ValueRef::Null; 11];
     for at in 0..cells.len() {

@@ -1,7 +1,7 @@
 //! What is wrong with a value of a plan text.
 
 use crate::keys::{Form, Key, are_digits};
-use bsp_plan_trial::Words;
+use crate::words::Words;
 use toml::Value;
 
 /// Whether a text has the form of a day: digits and dashes.

@@ -1,8 +1,8 @@
 //! Entries that differ: P08.
 
+use crate::words::{Shown, Words};
 use bsp_calendar::{CommissionTax, Period, Plan, PlanText, Rate, Terms};
 use bsp_fields::Day;
-use bsp_plan_trial::{Shown, Words};
 
 /// What is said of two entries that differ.
 struct Sides {

@@ -2,11 +2,12 @@
 
 use crate::entries::say_difference;
 use crate::order::{say_late, say_order};
+use crate::plan_trial::{PlanRefused, plan_before};
 use crate::tables::say_document_fault;
 use crate::toml_faults::say_toml_fault;
+use crate::words::{Shown, Words};
 use bsp_calendar::{Plan, PlanFault, PlanText, read_plan};
 use bsp_fields::Day;
-use bsp_plan_trial::{PlanRefused, Shown, Words, plan_before};
 use std::alloc::{AllocError, Global};
 
 /// The first rate of an airline that neither the plan nor the text has.

@@ -1,8 +1,8 @@
 //! Periods that do not follow one another: P03. Rates and taxes that begin too early: P05.
 
+use crate::words::{Shown, Words};
 use bsp_calendar::{Period, Plan, PlanText};
 use bsp_fields::Day;
-use bsp_plan_trial::{Shown, Words};
 
 /// Says what is wrong with the days of a period, and answers whether anything is.
 fn say_own_days(words: &mut Words, period: &Period) -> bool {

@@ -2,8 +2,8 @@
 
 use crate::keys::{Form, Key, PERIOD, RATE, TAX, TEXT, is_among, keys_of};
 use crate::values::say_wrong;
+use crate::words::{Shown, Words};
 use crate::written::{Place, TOP, below_a_table, find_written};
-use bsp_plan_trial::{Shown, Words};
 use itoa::Buffer;
 use std::str;
 use toml::{Table, Value};

@@ -1,8 +1,8 @@
 //! Why bytes are no TOML text: P01.
 
 use crate::keys::are_digits;
+use crate::words::{Shown, Words};
 use crate::written::{header, key, line_of, value};
-use bsp_plan_trial::{Shown, Words};
 use std::str;
 use toml::de::Error;
 
