@@ -2,8 +2,8 @@
 use Rattle.std.proofs.Common.{◌≡◌, ℕ, ◌+◌, ◌<◌, ◌≤◌, Bool, true, false, List, [], ◌∷◌, length, take, drop, if◌then◌else◌, Option, Some, None, refl, sym, ap, ◌∙◌, subst, add-one, arith, nat_lt, not, ◌&&◌, ◌||◌, ◌==◌}
 use Rattle.std.specs.Option.{option_map}
 use Rattle.std.proofs.lemmas.List.{length-take-le, take-append-drop}
-use Rattle.bsp_heads.proofs.ScanLemmas.{head_len-more, head_len-le}
-use Rattle.bsp_heads.specs.Scan.{after_byte, head_len, head_len_from}
+use Rattle.bsp_routes.proofs.ScanLemmas.{head_len-more, head_len-le}
+use Rattle.bsp_routes.specs.Scan.{after_byte, head_len, head_len_from}
 
 no_some : (o : Option ℕ) → ((n : ℕ) → o ≡ Some n → ⊥) → o ≡ None
 no_some None f = refl

@@ -13,7 +13,7 @@ use Rattle.bsp_connection.specs.Serving.{Answered, Conversation, EndsBy, MayHave
 use Rattle.bsp_connection.specs.Talks.{IsFresh, Talks}
 use Rattle.bsp_connection.specs.declared.connection.Begun.{Begun}
 use Rattle.bsp_connection.specs.declared.connection.Connection.{Connection}
-use Rattle.bsp_heads.specs.declared.scan.Scan.{Scan}
+use Rattle.bsp_routes.specs.declared.scan.Scan.{Scan}
 use Rattle.bsp_connection.specs.Ends.{IsInputEnd}
 use Rattle.bsp_connection.specs.Steps.{WasStep}
 use Rattle.bsp_connection.specs.declared.serving.End.{End}

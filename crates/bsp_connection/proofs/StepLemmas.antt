@@ -7,15 +7,15 @@ use Rattle.std.proofs.lemmas.Grind.{flat_map-append}
 use Rattle.std.proofs.lemmas.List.{drop-drop, drop_all, length-take-le, take-append-drop}
 use Rattle.std.specs.List.{FoldsTo}
 use Rattle.httparse.specs.Spans.{IsWithin, span_bytes}
-use Rattle.bsp_heads.proofs.BodyLemmas.{body_limited}
-use Rattle.bsp_heads.proofs.ScanLemmas.{head_len-more, head_len-le}
-use Rattle.bsp_heads.specs.Fields.{token_of}
-use Rattle.bsp_heads.specs.Head.{AreParts, IsHead, headers_of}
+use Rattle.bsp_routes.proofs.BodyLemmas.{body_limited}
+use Rattle.bsp_routes.proofs.ScanLemmas.{head_len-more, head_len-le}
+use Rattle.bsp_routes.specs.Fields.{token_of}
+use Rattle.bsp_routes.specs.Head.{AreParts, IsHead, headers_of}
 use Rattle.bsp_routes.specs.Replies.{ReplyText}
-use Rattle.bsp_heads.specs.Responses.{refusal_reply, response}
-use Rattle.bsp_heads.specs.Scan.{HasScanned, head_len}
-use Rattle.bsp_heads.specs.declared.fault.Refused.{Refused}
-use Rattle.bsp_heads.specs.declared.parts.HeadParts.{HeadParts}
+use Rattle.bsp_routes.specs.Responses.{refusal_reply, response}
+use Rattle.bsp_routes.specs.Scan.{HasScanned, head_len}
+use Rattle.bsp_routes.specs.declared.fault.Refused.{Refused}
+use Rattle.bsp_routes.specs.declared.parts.HeadParts.{HeadParts}
 use Rattle.bsp_connection.specs.Exchanges.{Exchange, Meaning, Reading, RequestText, does, inquiry, interim, used}
 use Rattle.bsp_connection.specs.Exchanges.Exchange.{wants, replies}
 use Rattle.bsp_connection.specs.Conversations.{HasHead, HasMessage, HasRefusal, IsRun, head_text, message_limit}

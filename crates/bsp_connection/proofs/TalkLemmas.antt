@@ -5,13 +5,13 @@ use Rattle.std.proofs.lemmas.List.{drop-append-le, drop_all, length-take-le, tak
 use Rattle.std.proofs.lemmas.Grind.{flat_map-append}
 use Rattle.httparse.specs.Grammar.{RequestHead}
 use Rattle.httparse.specs.Spans.{span_bytes}
-use Rattle.bsp_heads.proofs.ScanLemmas.{head_len-le, head_len-more}
-use Rattle.bsp_heads.specs.Head.{IsHead, Refuses, headers_of}
-use Rattle.bsp_heads.specs.Fields.{token_of}
-use Rattle.bsp_heads.specs.Scan.{HasScanned, head_len}
-use Rattle.bsp_heads.specs.declared.fault.Refused.{Refused}
-use Rattle.bsp_heads.specs.declared.parts.Wanted.{Wanted}
-use Rattle.bsp_heads.specs.declared.scan.Scan.{Scan}
+use Rattle.bsp_routes.proofs.ScanLemmas.{head_len-le, head_len-more}
+use Rattle.bsp_routes.specs.Head.{IsHead, Refuses, headers_of}
+use Rattle.bsp_routes.specs.Fields.{token_of}
+use Rattle.bsp_routes.specs.Scan.{HasScanned, head_len}
+use Rattle.bsp_routes.specs.declared.fault.Refused.{Refused}
+use Rattle.bsp_routes.specs.declared.parts.Wanted.{Wanted}
+use Rattle.bsp_routes.specs.declared.scan.Scan.{Scan}
 use Rattle.bsp_connection.specs.Exchanges.{Exchange, Meaning, Reading, RequestText, inquiry, interim, used}
 use Rattle.bsp_connection.specs.Conversations.{HasHead, HasMessage, HasRefusal, IsBegun, IsRun, message_limit}
 use Rattle.bsp_connection.proofs.StepLemmas.{folds_on, has_head, headed_in, same_head}

@@ -3,9 +3,9 @@ use Rattle.std.proofs.Common.{◌≡◌, inl, inr, ℕ, ◌+◌, ◌<◌, ◌≤
 use Rattle.std.proofs.lemmas.Bool.{cases_Bool, false≢true}
 use Rattle.httparse.specs.Spans.{span_bytes}
 use Rattle.bsp_routes.specs.Replies.{ReplyText}
-use Rattle.bsp_heads.specs.Responses.{refusal_reply, response}
-use Rattle.bsp_heads.specs.Scan.{HasScanned, head_len}
-use Rattle.bsp_heads.specs.declared.fault.Refused.{Refused}
+use Rattle.bsp_routes.specs.Responses.{refusal_reply, response}
+use Rattle.bsp_routes.specs.Scan.{HasScanned, head_len}
+use Rattle.bsp_routes.specs.declared.fault.Refused.{Refused}
 use Rattle.bsp_connection.proofs.StepLemmas.{answered_moves, begun_further, begun_moves, moves_on, passed_has, passed_moves, passed_on, refused_moves, unroomed_moves, unwanted_moves, waiting_moves, within}
 use Rattle.bsp_connection.specs.Exchanges.{Meaning, Reading, inquiry, interim, used}
 use Rattle.bsp_connection.specs.Conversations.{HasRefusal, IsRun}

@@ -2,10 +2,10 @@
 use Rattle.std.specs.Prelude.{◌≡◌, ◌≢◌, ℕ, ◌+◌, ◌<◌, ◌≤◌, Bool, false, List, [], ◌++◌, length, take, drop, Option, Some, None, IfSome, is_some}
 use Rattle.std.specs.Option.{option_map}
 use Rattle.httparse.specs.Spans.{IsWithin, span_bytes}
-use Rattle.bsp_heads.specs.Head.{AreParts, head_limit}
-use Rattle.bsp_heads.specs.Scan.{HasScanned, head_len}
-use Rattle.bsp_heads.specs.declared.parts.HeadParts.{HeadParts}
-use Rattle.bsp_heads.specs.declared.scan.Scan.{Scan}
+use Rattle.bsp_routes.specs.Head.{AreParts, head_limit}
+use Rattle.bsp_routes.specs.Scan.{HasScanned, head_len}
+use Rattle.bsp_routes.specs.declared.parts.HeadParts.{HeadParts}
+use Rattle.bsp_routes.specs.declared.scan.Scan.{Scan}
 use Rattle.bsp_connection.specs.Exchanges.{Exchange, Reading, RequestText, inquiry, interim}
 use Rattle.bsp_connection.specs.Conversations.{message_limit}
 use Rattle.bsp_connection.specs.declared.connection.Begun.{Begun}

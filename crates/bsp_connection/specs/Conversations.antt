@@ -2,12 +2,12 @@
 use Rattle.std.specs.Prelude.{◌≡◌, ◌≢◌, ℕ, ◌+◌, ◌<◌, ◌≤◌, ◌⊎◌, Bool, false, List, [], length, take, drop, Some, None, Ok}
 use Rattle.std.specs.List.{FoldsTo}
 use Rattle.httparse.specs.Grammar.{RequestHead}
-use Rattle.bsp_heads.specs.Fields.{token_of}
-use Rattle.bsp_heads.specs.Head.{IsHead, Refuses, head_limit, headers_of, judgement}
-use Rattle.bsp_heads.specs.Scan.{head_len}
-use Rattle.bsp_heads.specs.declared.fault.HeadFault.TheVariants.{HeadTooLarge}
-use Rattle.bsp_heads.specs.declared.fault.Refused.{Refused}
-use Rattle.bsp_heads.specs.declared.parts.Wanted.{Wanted}
+use Rattle.bsp_routes.specs.Fields.{token_of}
+use Rattle.bsp_routes.specs.Head.{IsHead, Refuses, head_limit, headers_of, judgement}
+use Rattle.bsp_routes.specs.Scan.{head_len}
+use Rattle.bsp_routes.specs.declared.fault.HeadFault.TheVariants.{HeadTooLarge}
+use Rattle.bsp_routes.specs.declared.fault.Refused.{Refused}
+use Rattle.bsp_routes.specs.declared.parts.Wanted.{Wanted}
 use Rattle.bsp_connection.specs.Exchanges.{Exchange, Meaning, RequestText, does, inquiry, interim, used}
 
 abbrev pub message_limit : ℕ

@@ -2,7 +2,7 @@
 use Rattle.std.specs.Prelude.{ℕ, Bool, true, false, List, [], ◌∷◌, if◌then◌else◌, Option}
 use Rattle.std.specs.Option.{option_map}
 use Rattle.bsp_routes.specs.Replies.{ReplyText}
-use Rattle.bsp_heads.specs.Responses.{continue_text}
+use Rattle.bsp_routes.specs.Responses.{continue_text}
 use Rattle.bsp_connection.specs.declared.service.Message.{Message}
 
 -- a request, with what is answered of its body

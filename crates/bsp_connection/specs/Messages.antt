@@ -3,9 +3,9 @@ use Rattle.std.specs.Prelude.{◌≡◌, ℕ, ◌+◌, ◌<◌, Bool, true, fals
 use Rattle.std.specs.List.{FoldsTo, flat_map}
 use Rattle.httparse.specs.Grammar.{RequestHead}
 use Rattle.bsp_routes.specs.Replies.{ReplyText}
-use Rattle.bsp_heads.specs.Responses.{refusal_reply, response}
-use Rattle.bsp_heads.specs.declared.fault.Refused.{Refused}
-use Rattle.bsp_heads.specs.declared.parts.Wanted.{Wanted}
+use Rattle.bsp_routes.specs.Responses.{refusal_reply, response}
+use Rattle.bsp_routes.specs.declared.fault.Refused.{Refused}
+use Rattle.bsp_routes.specs.declared.parts.Wanted.{Wanted}
 use Rattle.bsp_connection.specs.Exchanges.{Exchange, Meaning, RequestText, head_of, inquiry, interim}
 use Rattle.bsp_connection.specs.Exchanges.Exchange.{wants, replies}
 use Rattle.bsp_connection.specs.Conversations.{HasHead, HasMessage, HasRefusal, head_text, message_limit}

@@ -1,8 +1,8 @@
 -- What is found where a head is sought.
 use Rattle.std.specs.Prelude.{◌≡◌, ℕ, ◌<◌, ◌≤◌, List, length, take, Some, None}
-use Rattle.bsp_heads.specs.Head.{head_limit}
-use Rattle.bsp_heads.specs.Scan.{HasScanned, head_len}
-use Rattle.bsp_heads.specs.declared.scan.Scan.{Scan}
+use Rattle.bsp_routes.specs.Head.{head_limit}
+use Rattle.bsp_routes.specs.Scan.{HasScanned, head_len}
+use Rattle.bsp_routes.specs.declared.scan.Scan.{Scan}
 use Rattle.bsp_connection.specs.declared.heads.Sought.{Sought}
 use Rattle.bsp_connection.specs.declared.heads.Sought.TheVariants.{Head, TooLong, Nothing}
 

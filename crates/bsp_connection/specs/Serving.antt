@@ -2,7 +2,7 @@
 use Rattle.std.specs.Prelude.{◌≡◌, ◌≢◌, ◌⊎◌, ℕ, true, false, List, [], ◌++◌, Option, Result, Ok, Err}
 use Rattle.std.specs.Io.KnownBytes.{Appends, Keeps}
 use Rattle.httparse.specs.Grammar.{RequestHead}
-use Rattle.bsp_heads.specs.declared.parts.Wanted.{Wanted}
+use Rattle.bsp_routes.specs.declared.parts.Wanted.{Wanted}
 use Rattle.bsp_connection.specs.Exchanges.{Exchange, Meaning, inquiry, interim}
 use Rattle.bsp_connection.specs.Conversations.{HasHead, IsBegun, IsRun, head_text}
 use Rattle.bsp_connection.specs.Messages.{AreTaken, Item, Left, asked, left, texts}

@@ -1,6 +1,6 @@
 -- What a connection that is fed has done: all that came, was asked and was sent.
 use Rattle.std.specs.Prelude.{◌≡◌, ◌⊎◌, ℕ, ◌+◌, ◌-◌, ◌<◌, ◌≤◌, Bool, true, false, List, [], ◌++◌, length, take, drop, Some, None, is_some}
-use Rattle.bsp_heads.specs.Scan.{HasScanned}
+use Rattle.bsp_routes.specs.Scan.{HasScanned}
 use Rattle.bsp_connection.specs.Exchanges.{Exchange, Meaning, Reading}
 use Rattle.bsp_connection.specs.Conversations.{IsBegun, IsRun}
 use Rattle.bsp_connection.specs.Begun.{HasBody, HasUnread, asked_early, pending}

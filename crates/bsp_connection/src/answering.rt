@@ -4,8 +4,8 @@ ghost use Rattle.std.specs.Prelude.{◌≡◌, ◌≤◌, ◌<◌, ◌+◌, ◌|
 ghost use Rattle.bsp_connection.specs.Exchanges.{inquiry, used};
 ghost use Rattle.bsp_connection.specs.Conversations.{HasRefusal, IsRun};
 ghost use Rattle.bsp_routes.specs.Replies.{ReplyText, reply_text};
-ghost use Rattle.bsp_heads.specs.Responses.{response};
-ghost use Rattle.bsp_heads.specs.Scan.{head_len};
+ghost use Rattle.bsp_routes.specs.Responses.{response};
+ghost use Rattle.bsp_routes.specs.Scan.{head_len};
 ghost use Rattle.bsp_connection.specs.Begun.{HasBody, HasUnread, IsHeaded, IsRead, head_in, request_in};
 ghost use Rattle.bsp_connection.specs.Progress.{IsOn};
 ghost use Rattle.bsp_connection.specs.Talks.{HasPassed, IsAnswered, IsRefused, Moves};
@@ -16,8 +16,7 @@ use crate::heads::{Sought, seek};
 use crate::received::{from, up_to};
 use crate::service::{Service, message_of};
 use bsp_fields::NoRoom;
-use bsp_heads::{HeadFault, HeadParts, Refused, Scan, interim, read_head, refusal};
-use bsp_routes::Reply;
+use bsp_routes::{HeadFault, HeadParts, Refused, Reply, Scan, interim, read_head, refusal};
 
 /// The messages that were answered before the last that a connection may have.
 const LAST: usize = 65_535;

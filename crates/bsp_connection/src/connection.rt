@@ -10,7 +10,7 @@ use crate::output::Output;
 use crate::received::Received;
 use crate::serving::End;
 use bsp_fields::NoRoom;
-use bsp_heads::{HeadParts, Scan};
+use bsp_routes::{HeadParts, Scan};
 use std::alloc::{AllocError, Global};
 
 /// The most bytes that wait to be used, and those of one piece.

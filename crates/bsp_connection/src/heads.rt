@@ -1,10 +1,10 @@
 //! Seeking the end of a head in what was received.
 
 ghost use Rattle.std.specs.Prelude.{◌≡◌, ◌≤◌, ◌<◌, length, take, None, Some};
-ghost use Rattle.bsp_heads.specs.Scan.{HasScanned, head_len};
+ghost use Rattle.bsp_routes.specs.Scan.{HasScanned, head_len};
 ghost use Rattle.bsp_connection.specs.Seeking.{IsAnswer};
 
-use bsp_heads::{HEAD_LIMIT, Scan};
+use bsp_routes::{HEAD_LIMIT, Scan};
 
 /// What is found where a head is sought.
 #[derive(Clone, Copy)]

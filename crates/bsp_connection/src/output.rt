@@ -2,14 +2,13 @@
 
 ghost use Rattle.std.specs.Prelude.{◌≡◌, ◌≤◌, ◌-◌, ◌+◌, List, ℕ, [], ◌++◌, length, take, drop, not, Bool, true, false, if◌then◌else◌};
 ghost use Rattle.std.specs.Cow.{cow_slice_items};
-ghost use Rattle.bsp_heads.specs.ResponseHeads.{head_text};
+ghost use Rattle.bsp_routes.specs.ResponseHeads.{head_text};
 ghost use Rattle.bsp_routes.specs.Replies.{reply_text};
-ghost use Rattle.bsp_heads.specs.Responses.{reply_head, response};
+ghost use Rattle.bsp_routes.specs.Responses.{reply_head, response};
 ghost use Rattle.bsp_connection.specs.Outputs.{HasOutput, head_bytes};
 
 use crate::received::from;
-use bsp_heads::{HEAD_ROOM, HeadText, ResponseHead};
-use bsp_routes::Reply;
+use bsp_routes::{HEAD_ROOM, HeadText, Reply, ResponseHead};
 use std::alloc::Global;
 use std::borrow::CowSlice;
 use std::marker::Model;

@@ -7,8 +7,7 @@ ghost use Rattle.bsp_connection.specs.Exchanges.{Meaning, Reading, request_of};
 
 use crate::received::up_to;
 use bsp_fields::NoRoom;
-use bsp_heads::HeadParts;
-use bsp_routes::Reply;
+use bsp_routes::{HeadParts, Reply};
 
 /// A request whose head was read.
 #[derive(Clone, Copy)]

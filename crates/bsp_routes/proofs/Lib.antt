@@ -11,3 +11,13 @@ mod Paths
 mod CallLemmas
 mod ValueLemmas
 mod Places
+mod ElementLemmas
+mod FieldLemmas
+mod HeadLemmas
+mod HostLemmas
+mod LengthLemmas
+mod LineLemmas
+mod StatusNumbers
+pub mod ScanLemmas
+pub mod Texts
+pub mod BodyLemmas

@@ -1,4 +1,4 @@
--- What the contracts of the routes cite.
+-- What the contracts of the heads, the routes and the responses cite.
 pub mod Targets
 pub mod Calls
 pub mod Resources
@@ -6,3 +6,13 @@ pub mod Rows
 pub mod Matches
 pub mod Routed
 pub mod Replies
+pub mod Scan
+pub mod Elements
+pub mod Fields
+pub mod Found
+pub mod Lengths
+pub mod Hosts
+pub mod Judging
+pub mod Head
+pub mod ResponseHeads
+pub mod Responses

@@ -23,3 +23,8 @@ pub mod Std
 pub mod Sqlite
 pub mod Entries
 pub mod Base
+pub mod Back
+pub mod ItemOrders
+pub mod Written
+pub mod TaxBack
+pub mod ItemTables

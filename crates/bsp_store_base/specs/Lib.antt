@@ -18,3 +18,8 @@ pub mod MapTables
 pub mod Order
 pub mod Made
 pub mod Base
+pub mod ItemReading
+pub mod Written
+pub mod TaxReading
+pub mod TaxWritten
+pub mod ItemTables

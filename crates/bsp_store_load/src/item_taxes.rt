@@ -5,8 +5,7 @@ use crate::equal::has_values;
 use crate::load::StoredTable;
 use bsp_memory_rows::NoRoom;
 use bsp_rows::ItemKey;
-use bsp_store_base::{ItemTax, KeyedTable};
-use bsp_store_items::{ItemTaxRow, ItemTaxes, read_item_tax};
+use bsp_store_base::{ItemTax, ItemTaxRow, ItemTaxes, KeyedTable, read_item_tax};
 use sqlite::Row;
 use std::collections::BTreeMap;
 

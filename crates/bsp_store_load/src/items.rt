@@ -17,8 +17,7 @@ use crate::formed::formed_item;
 use crate::load::StoredTable;
 use bsp_memory_rows::{NoRoom, Tables};
 use bsp_rows::{Item, ItemKey, ReportedDocument};
-use bsp_store_base::{ItemTax, KeyedTable, TicketKey};
-use bsp_store_items::{ItemRow, Items, read_item, read_item_key};
+use bsp_store_base::{ItemRow, ItemTax, Items, KeyedTable, TicketKey, read_item, read_item_key};
 use sqlite::Row;
 use std::collections::BTreeMap;
 

@@ -15,8 +15,7 @@ use crate::load::StoredTable;
 use bsp_memory_rows::NoRoom;
 use bsp_memory_tables::ItemTable;
 use bsp_rows::{Item, ItemKey, ReportedDocument};
-use bsp_store_base::{KeyedTable, TicketKey, second_related};
-use bsp_store_items::{SecondRow, Seconds, read_second};
+use bsp_store_base::{KeyedTable, SecondRow, Seconds, TicketKey, read_second, second_related};
 use sqlite::Row;
 use std::collections::BTreeMap;
 

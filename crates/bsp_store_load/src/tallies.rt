@@ -12,7 +12,7 @@ use crate::listed::{RowOf, are_rows_of};
 use bsp_maps::Rule;
 use bsp_memory_tables::TallyTable;
 use bsp_rows::{Tally, TallyKey};
-use bsp_store_items::TallyTaxRow;
+use bsp_store_base::TallyTaxRow;
 use bsp_store_rows::tally_cells;
 use sqlite::Row;
 

@@ -3,8 +3,7 @@
 ghost use Rattle.bsp_store_base.specs.Shows.{ShowsAll, ShowsTable};
 ghost use Rattle.bsp_store_load.specs.Whole.{part_of};
 
-use bsp_store_base::KeyedTable;
-use bsp_store_items::TallyTaxes;
+use bsp_store_base::{KeyedTable, TallyTaxes};
 use bsp_store_rows::{
     Airlines, CommissionTaxes, Periods, PlacedTable, Rates, Tallies, meta_query, terms_query,
 };

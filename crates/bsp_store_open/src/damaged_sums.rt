@@ -5,7 +5,7 @@ use crate::named::Table;
 use crate::search_end::{End, end_at_row};
 use bsp_memory_tables::TallyTable;
 use bsp_rows::{Tally, TallyKey};
-use bsp_store_items::TallyTaxRow;
+use bsp_store_base::TallyTaxRow;
 use bsp_store_load::{has_values, is_row};
 use bsp_store_rows::{read_tally_key, tally_cells};
 use sqlite::Row;

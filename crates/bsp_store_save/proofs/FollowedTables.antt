@@ -6,8 +6,8 @@ use Rattle.bsp_store_base.proofs.Entries.{Item, item_cmp, item_exact, item_total
 use Rattle.bsp_store_base.proofs.Base.{airline_entries, entry_of, get-seconds_of, IsMapTable, MapTable, place_of, sale_at, second_in, seconds_of, seconds_of-written, ticket, ticket_cmp, with_second, with_value}
 use Rattle.bsp_store_rows.specs.Tables.{agents_map, memos_map, ranges_map, tallies_map, airlines_map}
 use Rattle.bsp_store_rows.proofs.Tables.{agents_lawful, memos_lawful, ranges_lawful, tallies_lawful, airlines_lawful}
-use Rattle.bsp_store_items.specs.Tables.{item_taxes_map, items_map, seconds_map, tally_taxes_map}
-use Rattle.bsp_store_items.proofs.Tables.{item_taxes_lawful, items_lawful, seconds_lawful, tally_taxes_lawful}
+use Rattle.bsp_store_base.specs.ItemTables.{item_taxes_map, items_map, seconds_map, tally_taxes_map}
+use Rattle.bsp_store_base.proofs.ItemTables.{item_taxes_lawful, items_lawful, seconds_lawful, tally_taxes_lawful}
 use Rattle.bsp_store_load.specs.AirlineEntry.{AirlineEntry}
 use Rattle.bsp_store_load.specs.Contents.{used_at, used_tallies}
 use Rattle.bsp_store_load.proofs.AirlineLemmas.{get-airline_entries}

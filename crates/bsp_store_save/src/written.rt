@@ -16,7 +16,7 @@ use crate::seconds::SecondDocuments;
 use bsp_maps::Logged;
 use bsp_memory_tables::{ItemTable, MemoTable, RangeTable, TallyTable};
 use bsp_rows::{AgentCode, AirlineCode, Token};
-use bsp_store_items::{ItemTaxes, Items, TallyTaxes};
+use bsp_store_base::{ItemTaxes, Items, TallyTaxes};
 use bsp_store_rows::{Agents, Memos, Tallies};
 use sqlite::{Alter, Connection, Error};
 use std::alloc::Global;

@@ -1,6 +1,6 @@
 use Rattle.std.proofs.Common.{subst, true}
 use Rattle.bsp_routes.specs.Replies.{ReplyText}
-use Rattle.bsp_heads.specs.Responses.{response}
+use Rattle.bsp_routes.specs.Responses.{response}
 use Rattle.bsp_connection.proofs.TurnLemmas.{refused_turn}
 use Rattle.bsp_connection.specs.Talks.{IsAnswered}
 use Rattle.bsp_connection.proofs.answering.refuse.Goals as goal

@@ -1,7 +1,7 @@
 use Rattle.std.proofs.Common.{◌≡◌, ◌≤◌, inr, ℕ, List, length, take, true, false, ap, sym, ◌∙◌, subst, IfSome}
 use Rattle.httparse.specs.Spans.{IsWithin}
-use Rattle.bsp_heads.proofs.ScanLemmas.{head_len-le}
-use Rattle.bsp_heads.specs.Head.{AreParts, Refuses}
+use Rattle.bsp_routes.proofs.ScanLemmas.{head_len-le}
+use Rattle.bsp_routes.specs.Head.{AreParts, Refuses}
 use Rattle.bsp_connection.specs.Begun.{IsHeaded, IsRead, head_in}
 use Rattle.bsp_connection.specs.Conversations.{IsRun}
 use Rattle.bsp_connection.specs.Exchanges.{inquiry}

@@ -1,5 +1,5 @@
 use Rattle.std.proofs.Common.{◌≡◌, ◌<◌, ℕ, List, length, None, refl, subst}
-use Rattle.bsp_heads.specs.Scan.{HasScanned, head_len}
+use Rattle.bsp_routes.specs.Scan.{HasScanned, head_len}
 use Rattle.bsp_connection.proofs.TurnLemmas.{waiting_turn}
 use Rattle.bsp_connection.proofs.answering.take_head.Goals as goal
 

@@ -1,6 +1,6 @@
 use Rattle.std.proofs.Common.{ℕ, List, [], take, true, subst}
 use Rattle.bsp_routes.specs.Replies.{reply_text}
-use Rattle.bsp_heads.specs.Responses.{response}
+use Rattle.bsp_routes.specs.Responses.{response}
 use Rattle.bsp_connection.specs.Begun.{head_in}
 use Rattle.bsp_connection.specs.Talks.{IsAnswered}
 use Rattle.bsp_connection.proofs.answering.turn_away.Goals as goal

@@ -1,6 +1,6 @@
 use Rattle.std.proofs.Common.{◌≡◌, ◌≤◌, length, sym, ◌∙◌, Some, arith}
-use Rattle.bsp_heads.proofs.ScanLemmas.{head_len-le}
-use Rattle.bsp_heads.specs.Scan.{head_len}
+use Rattle.bsp_routes.proofs.ScanLemmas.{head_len-le}
+use Rattle.bsp_routes.specs.Scan.{head_len}
 use Rattle.bsp_connection.proofs.SeekLemmas.{not_yet, too_long}
 use Rattle.bsp_connection.proofs.heads.seek.Goals as goal
 

@@ -2,8 +2,8 @@ use Rattle.bsp_store_base.proofs.Std.{◌∙◌, ap, from_entries, get, insert, 
 use Rattle.bsp_store_base.proofs.Entries.{item_cmp, ItemKey}
 use Rattle.bsp_store_base.proofs.Base.{tax_row}
 use Rattle.bsp_store_base.specs.declared.taxes.ItemTax.{ItemTax}
-use Rattle.bsp_store_items.specs.TaxReading.{item_tax_in}
-use Rattle.bsp_store_items.proofs.TaxBack.{item_tax_back}
+use Rattle.bsp_store_base.specs.TaxReading.{item_tax_in}
+use Rattle.bsp_store_base.proofs.TaxBack.{item_tax_back}
 use Rattle.bsp_store_load.proofs.EntryLemmas.{none_there, put_told}
 use Rattle.bsp_store_base.specs.Sqlite.{bound}
 use Rattle.bsp_store_load.proofs.RowReads.{not_none, own_is, not_refused}

@@ -3,8 +3,8 @@ use Rattle.bsp_store_base.proofs.Entries.{CivilDay, day_number, HasNumberKey, is
 use Rattle.bsp_store_base.proofs.Base.{item_row, tax_with, ticket_cmp}
 use Rattle.bsp_store_base.specs.declared.taxes.ItemTax.{ItemTax}
 use Rattle.bsp_store_base.proofs.Sqlite.{column, Int, Row}
-use Rattle.bsp_store_items.specs.Reading.{item_in, key_in}
-use Rattle.bsp_store_items.proofs.Back.{item_back, key_back}
+use Rattle.bsp_store_base.specs.ItemReading.{item_in, key_in}
+use Rattle.bsp_store_base.proofs.Back.{item_back, key_back}
 use Rattle.bsp_store_load.specs.Beside.{IsStoredItem, second_at}
 use Rattle.bsp_store_load.proofs.items.StoredItems.read.Goals as goal
 

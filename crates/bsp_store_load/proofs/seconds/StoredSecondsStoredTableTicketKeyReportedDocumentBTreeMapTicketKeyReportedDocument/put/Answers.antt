@@ -2,8 +2,8 @@ use Rattle.bsp_store_base.proofs.Std.{◌∙◌, ap, from_entries, get, insert, 
 use Rattle.bsp_store_base.proofs.Base.{second_row, ticket_cmp}
 use Rattle.bsp_store_base.specs.declared.tickets.TicketKey.{TicketKey}
 use Rattle.bsp_rows.specs.ReportedDocument.{ReportedDocument}
-use Rattle.bsp_store_items.specs.TaxReading.{second_row_in}
-use Rattle.bsp_store_items.proofs.TaxBack.{second_back}
+use Rattle.bsp_store_base.specs.TaxReading.{second_row_in}
+use Rattle.bsp_store_base.proofs.TaxBack.{second_back}
 use Rattle.bsp_store_load.proofs.EntryLemmas.{none_there, put_told}
 use Rattle.bsp_store_base.specs.Sqlite.{bound}
 use Rattle.bsp_store_load.proofs.RowReads.{not_none, own_is, not_refused}

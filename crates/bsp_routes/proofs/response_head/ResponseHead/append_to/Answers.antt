@@ -1,0 +1,21 @@
+use Rattle.bsp_routes.specs.ResponseHeads.{head_text, allow_lines, closing_lines}
+use Rattle.bsp_routes.proofs.Texts.{text_is}
+use Rattle.bsp_routes.proofs.response_head.ResponseHead.append_to.Goals as goal
+
+pub returns-clause-items : goal.returns-clause-items
+unfolding head_text
+returns-clause-items c =
+    rw (
+      c.put-5.ensures.items,
+      c.put-4.ensures.items,
+      c.put-3.ensures.items,
+      c.put-2.ensures.items,
+      c.put.ensures.items,
+      c.status_line.ensures.value,
+      c.body_lines.ensures.value,
+      c.as_bytes.ensures.value,
+      c.format.ensures.text,
+      c.allow_line.ensures.value,
+      c.last_lines.ensures.value,
+    )
+    (text_is _ _ _ _ _ (allow_lines c.args.self.now.allow) (closing_lines c.args.self.now.closes))

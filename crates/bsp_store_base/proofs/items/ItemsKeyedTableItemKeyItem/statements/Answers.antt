@@ -1,0 +1,19 @@
+use Rattle.std.proofs.Common.{refl}
+use Rattle.bsp_store_base.proofs.Sqlite.{everything, understood}
+use Rattle.bsp_store_base.proofs.MapTables.{shows_all}
+use Rattle.bsp_store_base.specs.ItemTables.{items_map}
+use Rattle.bsp_store_base.proofs.ItemTables.{items_lawful}
+use Rattle.bsp_store_base.proofs.ItemOrders.{items_rise}
+use Rattle.bsp_store_base.proofs.items.ItemsKeyedTableItemKeyItem.statements.Goals as goal
+
+pub returns-clause-meant : goal.returns-clause-meant
+unfolding understood everything
+returns-clause-meant c = record {
+  delete = (refl, (refl, refl));
+  insert = (refl, (refl, refl));
+  update = (refl, (refl, refl));
+  query = shows_all items_map items_lawful (λ trees r. refl) (λ trees r. refl) items_rise _ (refl, (refl, refl)) refl;
+}
+
+pub returns-clause-lawful : goal.returns-clause-lawful
+returns-clause-lawful c = items_lawful

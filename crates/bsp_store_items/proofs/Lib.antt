@@ -1,5 +1,0 @@
-pub mod Back
-pub mod Orders
-pub mod Written
-pub mod TaxBack
-pub mod Tables
