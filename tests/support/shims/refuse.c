@@ -1,5 +1,5 @@
 /* Put in front of the C library by LD_PRELOAD, this refuses allocations of a process: calls of malloc, calloc
-   and realloc.
+   and realloc. It gives no random bytes either.
 
    Where the variable REFUSED_ALLOCATION is N, it refuses the Nth. It then makes the file that REFUSAL_MARK names.
 
@@ -12,6 +12,7 @@
 #include <fcntl.h>
 #include <stdio.h>
 #include <stdlib.h>
+#include <string.h>
 #include <sys/stat.h>
 #include <sys/wait.h>
 #include <unistd.h>
@@ -92,6 +93,14 @@ static int is_refused(void) {
     close(open(mark, O_CREAT | O_WRONLY, 0600));
   errno = ENOMEM;
   return 1;
+}
+
+/* Bytes that are taken at random, as the salts of a book's log, are the same in each run, and others at each call: runs that wrote the
+   same leave files with the same bytes. */
+int getentropy(void *bytes, size_t count) {
+  static unsigned char calls;
+  memset(bytes, ++calls, count);
+  return 0;
 }
 
 void *malloc(size_t size) { return is_refused() ? NULL : __libc_malloc(size); }
