@@ -5,7 +5,7 @@
 - its command `run`, which is sent each request of some conversations twice; these have each request of docs/API.md. Each reply
   is that of ample memory; or one is 503 B01, and the same request after it has the reply of ample memory to the first of the two.
 - the same over a book in a file, for each allocation of a short conversation, one in 23 of three others (--one-in), and one in forty of
-  the opening before them; the file is then opened again.
+  the opening before them; the file is then opened again, and of several with the same bytes one is.
 - the same over books of earlier versions, of samples/books/, for the first hundred allocations and one in forty after them; the
   file is then opened again, and shows what ample memory shows.
 - its command `audit` on such a file and on a damaged one, and an opening of the damaged one, for the first hundred allocations and
