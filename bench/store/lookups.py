@@ -128,4 +128,5 @@ def main():
         print(f"{what}: {', '.join(f'{it:.1f}' for it in times)} microseconds at {', '.join(map(str, SIZES))} items, growth {times[-1] / times[0]:.2f}")
 
 
-main()
+if __name__ == "__main__":
+    main()

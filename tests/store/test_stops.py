@@ -8,8 +8,7 @@ are made. SQLite reads their rows, and the program opens them and answers reques
 
 Failures: the log, the main file or both fail from some call on, while the program goes on. Each reply before that is as with
 no failure. The request that meets it is answered 503 B03, and so is each later one; an opening that meets it ends with status
-3. But where the main file alone fails as an opening copies the log into it, all goes on over the log. What is left, as written
-and as synced, is then looked at as above.
+3. What is left, as written and as synced, is then looked at as above.
 
 - The rows of all tables, and what the callers see, are those of the requests that were acknowledged, or those and the next
   one. A request is acknowledged by the last byte of its reply, an opening by its line on standard error.
@@ -421,8 +420,7 @@ def failures(trial, pool):
             ended, said, has_failed, left = doing.result()
             stop, is_right = judged(trial, ended, said)
             goes_on = has_failed and stop == (len(trial.requests), False, True)
-            may_go_on = files == ("main",) and at < trial.opened
-            if not is_right or has_failed != (at < len(trial.calls)) or goes_on and not may_go_on:
+            if not is_right or has_failed != (at < len(trial.calls)) or goes_on:
                 kind.wrong.append((number, has_failed, ended.returncode, said, ended.stdout[-200:]))
             for it in left:
                 kind.add(f"{which} from call {number} on", stop, *it)

@@ -3,7 +3,8 @@ pub mod AuditingLemmas
 pub mod BookLemmas
 pub mod CommitLemmas
 pub mod FilesLemmas
+pub mod FoundLemmas
+pub mod LogLemmas
 pub mod OpeningLemmas
-pub mod Settling
 pub mod StopLemmas
 pub mod WholeLemmas

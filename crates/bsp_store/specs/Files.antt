@@ -1,5 +1,5 @@
 -- The store of the file at a path and of its log, where `start` says what they held.
-use Rattle.std.specs.Prelude.{◌≡◌, ◌⊎◌, false, true, IfSome, None, Option}
+use Rattle.std.specs.Prelude.{[], ◌≡◌, ◌↔◌, ◌⊎◌, false, true, IfSome, IsTrue, List, None, Option, ℕ}
 use Rattle.sqlite_disk.specs.Events.{replay}
 use Rattle.sqlite_disk.specs.History.{MayLeave}
 use Rattle.sqlite_disk.specs.Modelled.{start_of}
@@ -12,14 +12,21 @@ use Rattle.sqlite_std_file.specs.File.{IsFresh}
 use Rattle.sqlite_std_file.specs.declared.host.Host.{Host}
 use Rattle.sqlite_store.specs.declared.store.FileStore.{FileStore}
 use Rattle.sqlite_wal.specs.Files.{image_at}
+use Rattle.sqlite_wal.specs.Recovery.{Pages, Recovers}
 use Rattle.bsp_store_base.specs.Sqlite.{CannotOpen, DatabaseBusy, Error, FailsToOpenFiles, file_state, Ghosts, HasCleanDisk, Held, IsCleanLeft, LeavesFiles, OutOfMemory, SqliteFailure}
 use Rattle.sqlite.specs.Start.{FindsIn}
 use Rattle.sqlite.specs.declared.file.Leftover.{Leftover}
 use Rattle.bsp_store_save.specs.Kept.{Spares}
+use Rattle.bsp_store_open.specs.Opening.{AreAllInOrder, Reopens}
 
 -- no file was opened, for one of these errors
 abbrev pub OpensNone : Error → Type 0
 OpensNone error = (error ≡ SqliteFailure CannotOpen) ⊎ ((error ≡ SqliteFailure OutOfMemory) ⊎ (error ≡ SqliteFailure DatabaseBusy))
+
+-- while the disk is clean, a file recovers to the same pages with this log and without it
+abbrev pub HasNoPage : {D : Type 0} → disk.Ghosts D → D → Type 0
+HasNoPage g log =
+    IsTrue (g.is_clean log) → (size : ℕ) (db : List ℕ) (pages : Pages) → Recovers size (record { log = g.seen log; db = db }) pages ↔ Recovers size (record { log = []; db = db }) pages
 
 -- the calls of the system on a file
 abbrev pub calls_of : calls.Ghosts Host
@@ -28,6 +35,11 @@ calls_of = record { history = λ f. f.log.events }
 -- what is answered of a store that was opened, of which the connection shows this, or of the error for which it was not
 abbrev pub Answers : {S : Type 0} → (Held S → Type 0) → (Error → Type 0) → (Held S → Type 0) → (Error → Type 0) → Type 0
 Answers {S} finds fails Opened Unopened = ((conn : Held S) × finds conn × Opened conn) ⊎ ((error : Error) × fails error × Unopened error)
+
+-- a connection that was just opened: it shows what is committed, and the rows of each table in the order of their rowids
+pub record IsJustOpened {S : Type 0} (g : Ghosts S) (h : Held S) : Type 0 where
+  pub reopens : Reopens g h h
+  pub ordered : AreAllInOrder g h
 
 -- whatever was read over a connection, it left to a stop no more than there was
 abbrev pub IsSpared : {S : Type 0} → Ghosts S → Held S → Type 0

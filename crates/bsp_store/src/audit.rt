@@ -4,11 +4,13 @@ ghost use Rattle.std.specs.Prelude.{◌≡◌, Err, IfErr, IfOk, MatchResult, No
 ghost use Rattle.bsp_rows.specs.Rows.{Rows};
 ghost use Rattle.bsp_book.specs.Listed.{Holds as ListHolds};
 ghost use Rattle.bsp_store_base.specs.Base.{our_schema, Spares};
+ghost use Rattle.bsp_store_base.specs.Sqlite.{Held};
 ghost use Rattle.bsp_store_open.specs.Faults.{is_refusal};
-ghost use Rattle.bsp_store_open.specs.Opening.{IsOrdered, LeavesCommitted};
+ghost use Rattle.bsp_store_open.specs.Opening.{IsOrdered, LeavesCommitted, Reopens};
+ghost use Rattle.bsp_store.specs.Files.{IsJustOpened};
 ghost use Rattle.bsp_store.specs.Auditing.{HasNone, IsAuditAt, IsAuditOf, IsAudited, IsFound, IsPlanOf, IsSummaryOf, WasRefused, fault_in};
 
-use crate::missing_log::MissingLog;
+use crate::missing_log::{CloseAudited, MissingLog};
 use crate::on_files::{OnFiles, on_files};
 use bsp_book::ListBook;
 use bsp_rows::{Day, Plan};
@@ -168,6 +170,19 @@ fn audited<S: Alter, X: Finding>(alloc: Global, conn: &mut Connection<S>) -> Res
     }
 }
 
+/// Audits a connection that was just opened, and gives its store back, with what is found of its rows.
+fn found_once<S: Alter + Drop, X: Finding>(
+    alloc: Global,
+    mut conn: Connection<S>,
+) -> (Result<X, AuditFault>, S)
+    ensures ok { (before : Held S) → Reopens S.Store before conn → IfOk result.0 (IsAudited X.is_of S.Store before result.1) }
+    ensures refused { (before : Held S) → Reopens S.Store before conn → IfErr result.0 (λ e. is_refusal (fault_in e) ≡ true → WasRefused S.Store (fault_in e) before result.1) }
+    ensures left { (before : Held S) → Reopens S.Store before conn → LeavesCommitted S.Store before result.1 }
+{
+    let found = audited(alloc, &mut conn);
+    (found, conn.into_store())
+}
+
 /// Opens a store again, audits it and gives it back, with what is found of its rows.
 fn found_again<S: Alter + Drop, X: Finding>(
     alloc: Global,
@@ -178,10 +193,7 @@ fn found_again<S: Alter + Drop, X: Finding>(
     ensures left { LeavesCommitted S.Store conn result.1 }
 {
     match again(alloc, conn) {
-        Ok(mut conn) => {
-            let found = audited(alloc, &mut conn);
-            (found, conn.into_store())
-        }
+        Ok(conn) => found_once(alloc, conn),
         Err((fault, store)) => (Err(AuditFault::Failed(fault)), store),
     }
 }
@@ -205,17 +217,18 @@ pub fn audit_store<S: Alter + Drop>(
     found_again(alloc, conn)
 }
 
-/// Audits the book of a connection, and takes away the log that its opening made, while the files are still locked.
-fn audited_alone<S: Alter + Drop, X: Finding>(
+/// Audits the book of a connection that was just opened, and takes away the log that its opening made, while the files are
+/// still locked.
+fn audited_alone<S: Alter + CloseAudited + Drop, X: Finding>(
     rt: &HostRuntime,
     conn: Connection<S>,
-    log: &MissingLog,
+    log: MissingLog,
 ) -> Result<X, AuditFault>
+    requires { IsJustOpened S.Store conn }
     ensures { IsAuditOf X.is_of S.Store conn result }
 {
-    let (found, store) = found_again(rt.alloc(), conn);
-    log.remove(rt);
-    drop(store);
+    let (found, store) = found_once(rt.alloc(), conn);
+    store.close_audited(rt, log);
     found
 }
 
@@ -233,16 +246,16 @@ impl<X: Finding> OnFiles<Result<X, AuditFault>> for Audit {
 
     ghost is_failed = { λ fault found. IsErrAnd found (λ e. fault_in e ≡ fault) };
 
-    fn found<S: Alter + Drop, L: Drop>(
+    fn found<S: Alter + CloseAudited + Drop, L: CloseAudited + Drop>(
         self,
         rt: &HostRuntime,
         opened: Result<Connection<S>, (OpenFault, Option<L>)>,
     ) -> Result<X, AuditFault> {
         match opened {
-            Ok(conn) => audited_alone(rt, conn, &self.log),
+            Ok(conn) => audited_alone(rt, conn, self.log),
             Err((fault, left)) => {
-                if left.is_some() {
-                    self.log.remove(rt);
+                if let Some(left) = left {
+                    left.close_audited(rt, self.log);
                 }
                 Err(AuditFault::Failed(fault))
             }

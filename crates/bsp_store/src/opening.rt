@@ -11,19 +11,18 @@ ghost use Rattle.bsp_store_open.specs.Old.{old_schema};
 ghost use Rattle.bsp_store_open.specs.declared.old_versions.OldVersion.{OldVersion};
 ghost use Rattle.bsp_store.specs.Meanings.{Holds};
 ghost use Rattle.bsp_store.specs.Adopting.{IsFoundIn, IsMadeOf, IsMigratedIn, LeavesMigrated, ShowsNone};
-ghost use Rattle.bsp_store.specs.Files.{AnswersFiles, IsSpared};
+ghost use Rattle.bsp_store.specs.Files.{AnswersFiles, IsJustOpened, IsSpared};
 ghost use Rattle.bsp_store.specs.Openings.{IsOpening, IsOpeningAt, IsOpeningOf};
 
 use crate::book::SqlBook;
-use crate::logged::Logged;
+use crate::missing_log::CloseAudited;
 use crate::on_files::{Files, OnFiles, book_at, on_files};
 use bsp_store_open::{
     Damage, OldVersion, OpenFault, again, empty_list, find_damage, is_bare, is_ours, kept_list,
-    migrated_list, old_version, open_ordered, refusal,
+    migrated_list, old_version, refusal,
 };
 use bsp_store_save::make_book;
 use sqlite::{Alter, Connection, Error, ErrorCode, FileFrom, FileStore, MemStore, Start};
-use sqlite_trees::store::Store;
 use std::alloc::Global;
 
 /// Opens the book that a store with tables keeps, which are not those of an earlier version.
@@ -124,30 +123,6 @@ fn opened<S: Alter + Drop>(alloc: Global, conn: Connection<S>) -> Result<SqlBook
     }
 }
 
-/// Opens a connection again over its own store, after the log is copied into the main file.
-fn settled<S: Alter + Logged + Drop>(
-    alloc: Global,
-    conn: Connection<S>,
-) -> Result<Connection<S>, (OpenFault, S)>
-    ensures ok { IfOk result (Reopens S.Store conn) }
-    ensures ordered { IfOk result (AreAllInOrder S.Store) }
-    ensures refused { IfErr result (λ e. is_refusal e.0 ≡ false) }
-    ensures left { IfErr result (λ e. LeavesCommitted S.Store conn e.1) }
-{
-    let mut store = conn.into_store();
-    store.copy_log();
-    if store.is_broken() {
-        return Err((
-            OpenFault::Failed(Error::SqliteFailure(ErrorCode::Closed)),
-            store,
-        ));
-    }
-    match open_ordered(alloc, store) {
-        Ok(conn) => Ok(conn),
-        Err((error, store)) => Err((OpenFault::from(error), store)),
-    }
-}
-
 /// What an opening answers, without the store that comes with a fault.
 fn without_store<S: Alter + Drop>(
     opened: Result<SqlBook<S>, (OpenFault, S)>,
@@ -161,25 +136,26 @@ fn without_store<S: Alter + Drop>(
 }
 
 /// Opens the book of a connection that was just opened, if it was. What is left of a store is dropped.
-pub(crate) fn opened_book<S: Alter + Logged + Drop, L: Drop>(
+pub(crate) fn opened_book<S: Alter + Drop, L: Drop>(
     alloc: Global,
-    opened: Result<Connection<S>, (OpenFault, Option<L>)>,
+    conn: Result<Connection<S>, (OpenFault, Option<L>)>,
 ) -> Result<SqlBook<S>, OpenFault>
-    ensures { MatchResult opened (λ conn. IsOpeningOf S.Store conn result) (λ e. result ≡ Err e.0) }
+    requires { IfOk conn (IsJustOpened S.Store) }
+    ensures { MatchResult conn (λ it. IsOpeningOf S.Store it result) (λ e. result ≡ Err e.0) }
 {
-    match opened {
-        Ok(conn) => without_store(SqlBook::adopt(alloc, conn)),
+    match conn {
+        Ok(conn) => without_store(opened(alloc, conn)),
         Err((fault, _)) => Err(fault),
     }
 }
 
-impl<S: Alter + Logged + Drop> SqlBook<S> {
+impl<S: Alter + Drop> SqlBook<S> {
     /// Opens the book that a store keeps, and tests that its rows are sound. A store without any table gets those of an
     /// empty book, in one transaction. One with the tables of an earlier version gets those that it lacks, also in one
     /// transaction, and the same book: it is committed only after its rows were found to be sound.
     ///
-    /// What the log of the store has is first copied into its main file. The connection is opened again over its store,
-    /// which rolls back a transaction that is open on it and tests the whole store once more.
+    /// The connection is opened again over its store, which rolls back a transaction that is open on it and tests the whole
+    /// store once more.
     ///
     /// Where the connection shows what a stop left of a book with sound rows, of this version or of an earlier one, as
     /// `stops_are_found` says, the book that is opened has these rows, and `OtherVersion` and `Damaged` are not answered
@@ -194,7 +170,7 @@ impl<S: Alter + Logged + Drop> SqlBook<S> {
     pub fn adopt(alloc: Global, conn: Connection<S>) -> Result<SqlBook<S>, (OpenFault, S)>
         ensures opening { IsOpening S.Store conn result }
     {
-        let conn = settled(alloc, conn)?;
+        let conn = again(alloc, conn)?;
         opened(alloc, conn)
     }
 }
@@ -215,8 +191,9 @@ impl SqlBook<MemStore> {
 }
 
 impl<T: Start> SqlBook<FileStore<FileFrom<T>>> {
-    /// Opens the book in the file at a path, with its log beside it, or makes both, and adopts it as [`SqlBook::adopt`]
-    /// does. `start` says what a torn write may leave: with `Wary` each commit syncs twice.
+    /// Opens the book in the file at a path, with its log beside it, or makes both. It opens them once, and tests the whole
+    /// store then; what the log has stays there. What it makes of them is as [`SqlBook::adopt`] says. `start` says what a
+    /// torn write may leave: with `Wary` each commit syncs twice.
     ///
     /// # Errors
     ///
@@ -246,7 +223,7 @@ impl OnFiles<Result<Damage, OpenFault>> for Search {
 
     ghost is_failed = { λ fault found. found ≡ Err fault };
 
-    fn found<S: Alter + Drop, L: Drop>(
+    fn found<S: Alter + CloseAudited + Drop, L: CloseAudited + Drop>(
         self,
         rt: &HostRuntime,
         opened: Result<Connection<S>, (OpenFault, Option<L>)>,

@@ -1,24 +1,25 @@
 -- The rows of each table are in the order of their rowids, whatever the schema is.
-use Rattle.bsp_store_base.proofs.Std.{[], ◌∙◌, ◌∷◌, ◌≡◌, ◌≤◌, AllByRecursion, arith, both_ways, Err, false, IfOk, IsTrue, List, map, Ok, Result, subst, sym, true_from_ne_false}
-use Rattle.bsp_store_base.specs.Sqlite.{catalog_tree, Ghosts, HasCleanDisk, Held, IsFresh, IsListed, IsLive, IsSound, Opens, Schema, state, Table}
-use Rattle.sqlite_trees.specs.declared.store.Shape.TheVariants as shape
-use Rattle.sqlite_trees.specs.View.{View, doubt, IsClean, IsOrdered as IsShapedAll, IsRolledBack as IsUndone}
+use Rattle.bsp_store_base.proofs.Std.{[], ◌∙◌, ◌∷◌, ◌≡◌, ◌≤◌, AllByRecursion, arith, both_ways, Err, false, IfOk, IsTrue, List, map, Ok, Result, subst, sym, true_from_ne_false, ℕ}
+use Rattle.bsp_store_base.specs.Sqlite.{catalog_tree, Ghosts, HasCleanDisk, Held, IsFresh, IsListed, IsLive, IsSound, Opens, Schema, state, Table, Trees}
+use Rattle.sqlite_trees.specs.declared.store.Shape.{Shape}
+use Rattle.sqlite_trees.specs.declared.store.Shape.TheVariants as shapes
+use Rattle.sqlite_trees.specs.View.{doubt, IsClean, IsOrdered as IsShapedAll, IsRolledBack as IsUndone}
 use Rattle.sqlite_catalog.proofs.LayoutLemmas.{laid_out}
 use Rattle.bsp_store_base.specs.Order.{IsInOrder}
 use Rattle.bsp_store_open.specs.Opening.{AreAllInOrder, AreOrdered, IsOrdered}
 
 -- the trees that have the shape of a table are tables
-all_in_order : (v : View) → IsShapedAll v.shape v.trees → (tables : List Table) → AllByRecursion (λ t. v.shape t.tree ≡ shape.Table) tables
-    → AllByRecursion (IsInOrder v.trees) (map (λ t. t.tree) tables)
-all_in_order v ordered [] shapes = tt
-all_in_order v ordered (t ∷ tables) shapes = (rw shapes.0 at (ordered t.tree), all_in_order v ordered tables shapes.1)
+all_in_order : (shape : ℕ → Shape) (trees : Trees) → IsShapedAll shape trees → (tables : List Table) → AllByRecursion (λ t. shape t.tree ≡ shapes.Table) tables
+    → AllByRecursion (IsInOrder trees) (map (λ t. t.tree) tables)
+all_in_order shape trees ordered [] are = tt
+all_in_order shape trees ordered (t ∷ tables) are = (rw are.0 at (ordered t.tree), all_in_order shape trees ordered tables are.1)
 
--- a store that lists a database has its tables in order
-tables_are_ordered : (v : View) (schema : Schema) → IsShapedAll v.shape v.trees → IsListed (v.trees catalog_tree) v.shape v.reals → IsSound schema v.trees
-    → AllByRecursion (IsInOrder v.trees) (map (λ t. t.tree) schema.tables)
-tables_are_ordered v schema ordered listed sound =
+-- trees that list a database, each as its shape says, have its tables in order
+pub tables_are_ordered : (shape : ℕ → Shape) (reals : ℕ → ℕ) (trees : Trees) (schema : Schema) → IsShapedAll shape trees → IsListed (trees catalog_tree) shape reals → IsSound schema trees
+    → AllByRecursion (IsInOrder trees) (map (λ t. t.tree) schema.tables)
+tables_are_ordered shape reals trees schema ordered listed sound =
     let laid = laid_out listed (rw listed.itself.0 at (ordered catalog_tree)) sound.lists.listed in
-    all_in_order v ordered schema.tables laid.tables
+    all_in_order shape trees ordered schema.tables laid.tables
 
 -- a connection over a store that is not broken has the trees of that store
 pub opened_in_order : {S E : Type 0} (g : Ghosts S) (store : S) (r : Result (Held S) E) → (IsClean (g.view store) → IsFresh (g.view store))
@@ -35,7 +36,7 @@ opened_in_order g store (Ok c) fresh ordered listed opens clean trees = λ disk.
     let found = opens disk in
     let schema : Schema = (state g c).now.schema in
     let lists : IsSound schema (g.view store).trees = subst (IsSound schema) (trees disk) (found.1 found.0.is_open).0 in
-    subst (λ t. AllByRecursion (IsInOrder t) (map (λ u. u.tree) schema.tables)) (sym (trees disk)) (tables_are_ordered (g.view store) schema (ordered sound) (listed sound) lists)
+    subst (λ t. AllByRecursion (IsInOrder t) (map (λ u. u.tree) schema.tables)) (sym (trees disk)) (tables_are_ordered (g.view store).shape (g.view store).reals (g.view store).trees schema (ordered sound) (listed sound) lists)
 
 -- so are those of our tables
 pub ours_in_order : {S : Type 0} (g : Ghosts S) (h : Held S) → AreAllInOrder g h → IsOrdered g h
