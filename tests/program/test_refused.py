@@ -467,9 +467,10 @@ def is_not_opened(ample, found, number):
 
 @pytest.fixture
 def two_books():
-    """A book, and one like it that is damaged."""
-    for text in twice(KEPT[0]), b"":
-        assert program.run("run", "--token", OFFICE, "--db", "book.db", text=text).status == 0
+    """A book, and one like it that is damaged, both without a log."""
+    assert program.run("run", "--token", OFFICE, "--db", "book.db", text=twice(KEPT[0])).status == 0
+    with contextlib.closing(sqlite3.connect("book.db")) as it:
+        it.execute("PRAGMA wal_checkpoint")
     shutil.copy("book.db", "damaged.db")
     with contextlib.closing(sqlite3.connect("damaged.db", isolation_level=None)) as it:
         it.execute("UPDATE tally SET living = living + 1")

@@ -457,7 +457,7 @@ def test_the_stored_run():
 
 
 def test_example_39_on_standard_input():
-    """Example 39 on standard input and output, over a new file and over the same again."""
+    """Example 39 on standard input and output, over a new file and over the same again, which a start leaves with its log."""
     head = b"POST /office/day HTTP/1.1\r\nHost: bsp\r\nBsp-Token: %s\r\n" % OFFICE.encode()
     asked = head + b'Expect: 100-continue\r\nContent-Length: 20\r\n\r\n{"day":"2024-01-05"}'
     day = "day 2024-01-05, 0 of 0 periods closed, 0 agents, 0 airlines, 0 items, 0 memos"
@@ -467,8 +467,8 @@ def test_example_39_on_standard_input():
             b'Content-Length: 17\r\n\r\n{"result":"%s"}' % result
         )
         expect_end(f"run, {result.decode()}", (0, reply, f"bsp_office: run.db: {book}\n".encode()), over("run.db"), input=asked)
-    shutil.copy("run.db", "alone.db")
-    expect("the file alone, after an opening", [(damages.day("05"),)], rows_of("alone.db", "SELECT day FROM meta"))
+    expect("the log, after an opening", True, os.path.getsize("run.db-wal") > 4096)
+    expect("the file and its log", [(damages.day("05"),)], rows_of("run.db", "SELECT day FROM meta"))
 
 
 def refusal(what, file, cause, status):
