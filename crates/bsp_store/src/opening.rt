@@ -1,6 +1,6 @@
 //! A store opened as a book.
 
-ghost use Rattle.std.specs.Prelude.{◌≡◌, ◌⊎◌, false, true, Err, IfErr, IfOk, MatchResult, None, Ok};
+ghost use Rattle.std.specs.Prelude.{◌≡◌, false, true, Err, IfErr, IfOk, MatchResult, None, Ok};
 ghost use Rattle.bsp_store_base.specs.Sqlite.{HasCleanDisk, Held, IsClean, over_files, over_memory, state};
 ghost use Rattle.bsp_rows.specs.Rows.{no_rows};
 ghost use Rattle.bsp_store_open.specs.Schema.{no_schema};

@@ -54,9 +54,9 @@ agent_back text agent reads is = ap (λ t. agent_in (Text t)) (code_digits-fits 
 
 -- a document's ten digits, of this number, with their check digit
 pub record IsChecked (text : List ℕ) (check number : ℕ) : Type 0 where
-  fits : number < 10 ^ 10
-  spelled : fixed_digits 10 number ≡ text
-  checked : check ≡ check_digit_of number
+  pub fits : number < 10 ^ 10
+  pub spelled : fixed_digits 10 number ≡ text
+  pub checked : check ≡ check_digit_of number
 
 pub is_checked : (text : List ℕ) (check number : ℕ) → document_reading text check ≡ Ok number → IsChecked text check number
 is_checked text check number reads =
@@ -73,10 +73,10 @@ is_checked text check number reads =
       checked = eqb-true _ _ (not-false _ last.0) ∙ ap check_digit_of is;
     }
 
-pub number_back : (text : List ℕ) (number : ℕ) → number < 10 ^ 10 → fixed_digits 10 number ≡ text → code_in 10 (Text text) ≡ Some number
+number_back : (text : List ℕ) (number : ℕ) → number < 10 ^ 10 → fixed_digits 10 number ≡ text → code_in 10 (Text text) ≡ Some number
 number_back text number fits spelled = subst (λ t. code_in 10 (Text t) ≡ Some number) spelled (ap result_ok (code_reading-fixed_digits 10 number fits))
 
-pub same_document : (d : ReportedDocument) (number : ℕ) → IsChecked d.number d.check_digit number → numbered d.airline number ≡ d
+same_document : (d : ReportedDocument) (number : ℕ) → IsChecked d.number d.check_digit number → numbered d.airline number ≡ d
 same_document d number is = λ i. record { airline = d.airline; number = is.spelled i; check_digit = (sym is.checked) i }
 
 -- ---- single columns
@@ -153,7 +153,7 @@ reported_from : (airline number : ℕ) (r : Row) (d : ReportedDocument) (n : ℕ
 reported_from airline number r d n a there same = rw (a, there) (ap (λ x. Some x) same)
 
 -- a document in two columns
-pub reported_back : (airline number : ℕ) (r : Row) (d : ReportedDocument) → column r airline ≡ airline_text d.airline → column r number ≡ Text d.number → IsStoredDocument d → is_wrong_place (Some d) ≡ false
+reported_back : (airline number : ℕ) (r : Row) (d : ReportedDocument) → column r airline ≡ airline_text d.airline → column r number ≡ Text d.number → IsStoredDocument d → is_wrong_place (Some d) ≡ false
     → reported_in airline number r ≡ Some d
 reported_back airline number r d a n stored fits =
     let is = is_checked d.number d.check_digit _ (reads_without_fault d.number d.check_digit fits) in

@@ -26,5 +26,5 @@ tally_taxes_rise c formed =
 pub seconds_rise : (c : Content) → IsFormed c → IsAscending (IsBefore (by_keys seconds_map)) (map second_row (entries c.seconds))
 seconds_rise c formed =
     rows_rise IsSecondEntry (λ a b. ticket_cmp a.0 b.0 ≡ Less) (IsBefore (by_keys seconds_map)) second_row
-    (λ a b f g less. two_orders _ _ _ _ (code_order 8 a.0.agent b.0.agent f.agent.has_digits g.agent.has_digits) (code_order 10 a.0.number b.0.number f.number g.number) ∙ less)
+    (λ a b f g less. two_orders _ _ _ _ (code_order 8 a.0.agent b.0.agent f.0.has_digits g.0.has_digits) (code_order 10 a.0.number b.0.number f.1 g.1) ∙ less)
     (entries c.seconds) formed.seconds (entries_rise ticket_cmp c.seconds)

@@ -1,16 +1,12 @@
 -- Codes in decimal digits, as the WHERE of a key compares its columns.
-use Rattle.bsp_store_base.proofs.Std.{◌&&◌, ◌+◌, ◌<◌, ◌^◌, ◌∙◌, ◌≡◌, ap, ap₂, arith, Bool, bool_cmp, bytes_eq, bytes_eq-Decides, cond, cond_both, Decides, Equal, Equal-is, false, Greater, is_eq, is_eq-slice_cmp, Less, lt-ltb, ltb-true, nat_cmp, nat_cmp-IsAntisymmetric, nat_cmp_total, nat_lt, Ordering, ordering_then, pos, pow-le-pow_right, pow-suc, refl, same_from_decides, subst, suc, sym, tied_itself, true, zero, ℕ}
+use Rattle.bsp_store_base.proofs.Std.{◌&&◌, ◌+◌, ◌<◌, ◌^◌, ◌∙◌, ◌≡◌, ap, ap₂, arith, Bool, bool_cmp, bytes_eq, bytes_eq-Decides, cond_both, Decides, Equal, Equal-is, false, Greater, is_eq, is_eq-slice_cmp, Less, ltb-true, nat_cmp, nat_cmp-IsAntisymmetric, nat_cmp_total, nat_lt, Ordering, ordering_then, pos, pow-le-pow_right, pow-suc, refl, same_from_decides, subst, suc, sym, tied_itself, true, zero, ℕ}
 use Rattle.bsp_store_base.specs.Sqlite.{Binary, Compare, Eq, Text, binary, is_true}
-use Rattle.bsp_rows.specs.Decimal.{number_of, fixed_digits}
+use Rattle.bsp_rows.specs.Decimal.{number_of}
 use Rattle.bsp_rows.proofs.DecimalLemmas.{number_of-fixed_digits}
 use Rattle.bsp_store_base.specs.Columns.{code_digits, flag}
 use Rattle.bsp_store_base.proofs.Values.{same_text, same_int, and_true}
 
 -- ---- the number of the digits
-
--- a code that fits in its width
-pub code_digits-fits : (w n : ℕ) → n < 10 ^ w → code_digits w n ≡ fixed_digits w n
-code_digits-fits w n fits = ap (λ b. cond b (fixed_digits w n) (fixed_digits (w + suc n) n)) (lt-ltb n (10 ^ w) fits)
 
 below_power : (n : ℕ) → n < 10 ^ n
 below_power zero = omega arith

@@ -9,15 +9,11 @@ pub mod Held
 pub mod Values
 pub mod Syncing
 pub mod Opening
-pub mod Days
 pub mod Keys
 pub mod Orders
-pub mod Placing
-pub mod AirlineLemmas
 pub mod Writes
 pub mod MapTables
 pub mod SecondLemmas
-pub mod ReadBack
 pub mod MakingLemmas
 pub mod Std
 pub mod Sqlite
@@ -25,6 +21,5 @@ pub mod Entries
 pub mod Base
 pub mod Back
 pub mod ItemOrders
-pub mod Written
 pub mod TaxBack
 pub mod ItemTables

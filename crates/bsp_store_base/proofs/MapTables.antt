@@ -1,6 +1,6 @@
 -- What DELETE, INSERT and UPDATE by a key make of a table, and what a value, or none, makes of the content.
 use Rattle.bsp_store_base.proofs.Std.{[], ◌+◌, ◌∙◌, ◌∷◌, ◌≡◌, ap, ap₂, Bool, entries, eq_by_cmp, false, get, insert, is_some, List, map, None, Ok, OnErr, OnOk, Option, Ordering, range_with_len, refl, remove, Result, Some, subst, sym, true, ℕ}
-use Rattle.bsp_store_base.specs.Sqlite.{Column, CommitsBy, Error, Executes, Ghosts, HasCleanDisk, Held, IsAscending, Null, Output, Row, State, Survives, Trees, col, eval_all, lit, reads_listing, rowid, state}
+use Rattle.bsp_store_base.specs.Sqlite.{Column, Error, Executes, Ghosts, Held, IsAscending, Null, Output, Row, State, Trees, col, eval_all, lit, reads_listing, rowid, state}
 use Rattle.sqlite_trees.proofs.ListLemmas.{IsPermutation-same}
 use Rattle.bsp_store_base.specs.Schema.{our_schema}
 use Rattle.bsp_store_base.specs.Kept.{Keeps, HasContents, columns_of}
@@ -19,11 +19,6 @@ use Rattle.bsp_store_base.proofs.Syncing.{one_there, rows_added, remove_none, ro
 use Rattle.bsp_store_base.proofs.Values.{cast_null}
 use Rattle.bsp_store_base.proofs.Writes.{no_work}
 use Rattle.bsp_store_base.proofs.Writing.{inserts, deletes, updates}
-
--- a statement ran with parameters that are these
-pub ran_with : {S : Type 0} (g : Ghosts S) (text : List ℕ) (given params : Row) (old new : Held S) (r : Result ℕ Error) → given ≡ params
-    → (HasCleanDisk (state g new) → Executes text given (state g old) (state g new) r) → Survives (state g old) (state g new) (CommitsBy text given (state g old)) → HasRun g text params old new r
-ran_with g text given params old new r is runs survives = subst (λ row. HasRun g text row old new r) is (record { runs = runs; survives = survives })
 
 is_none : {V : Type 0} (o : Option V) → is_some o ≡ false → o ≡ None
 is_none None e = refl

@@ -7,7 +7,7 @@ use Rattle.bsp_rows.specs.Decimal.{fixed_digits}
 use Rattle.bsp_rows.proofs.DecimalLemmas.{length-fixed_digits}
 use Rattle.bsp_store_base.specs.Columns.{code_digits, flag, count, placed}
 use Rattle.bsp_store_base.proofs.Rising.{IsBefore, rows_rise}
-use Rattle.bsp_store_base.proofs.Keys.{code_digits-fits}
+use Rattle.bsp_store_columns.proofs.ReadBack.{code_digits-fits}
 
 -- ---- one column
 

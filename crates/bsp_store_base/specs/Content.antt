@@ -4,7 +4,7 @@ use Rattle.bsp_store_base.specs.Std.{entries, FinMap, nat_cmp}
 use Rattle.bsp_store_base.specs.Entries.{AirlineEntry, CommissionTax, Item, MemoFields, Period, Rate, ReportedDocument, Rows, Tally, Terms}
 use Rattle.bsp_rows.specs.Rows.{item_cmp, memo_cmp, range_cmp}
 use Rattle.bsp_rows.specs.Tallies.{tally_cmp}
-use Rattle.bsp_store_base.specs.Airlines.{airline_entries}
+use Rattle.bsp_store_columns.specs.Airlines.{airline_entries}
 use Rattle.bsp_store_base.specs.Seconds.{seconds_of, ticket_cmp}
 use Rattle.bsp_store_base.specs.Columns.{Meta, airline_row, agent_row, commission_tax_row, item_row, item_tax_row, memo_row, meta_rows, period_row, placed, rate_row, second_row, stock_row, tally_row, tally_tax_row, terms_rows}
 use Rattle.bsp_store_base.specs.Schema.{our_schema, meta_table, terms_table, airline_table, rate_table, period_table, agent_table, stock_table, item_table, memo_table, tally_table, commission_tax_table, item_tax_table, tally_tax_table, second_related_table}

@@ -32,6 +32,6 @@ pub use Rattle.bsp_rows.specs.declared.keys.ItemKey.{ItemKey}
 pub use Rattle.bsp_rows.specs.declared.keys.MemoKey.{MemoKey}
 pub use Rattle.bsp_rows.specs.declared.keys.RangeKey.{RangeKey}
 pub use Rattle.bsp_rows.specs.declared.keys.TallyKey.{TallyKey}
-pub use Rattle.bsp_store_base.specs.declared.airlines.AirlineEntry.{AirlineEntry}
-pub use Rattle.bsp_store_base.specs.declared.taxes.ItemTax.{ItemTax}
-pub use Rattle.bsp_store_base.specs.declared.tickets.TicketKey.{TicketKey}
+pub use Rattle.bsp_store_columns.specs.declared.airlines.AirlineEntry.{AirlineEntry}
+pub use Rattle.bsp_store_columns.specs.declared.taxes.ItemTax.{ItemTax}
+pub use Rattle.bsp_store_columns.specs.declared.tickets.TicketKey.{TicketKey}

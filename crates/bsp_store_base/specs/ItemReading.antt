@@ -10,7 +10,7 @@ use Rattle.bsp_ret_writer.specs.Taxes.{code_part, amount_part}
 use Rattle.bsp_store_base.specs.Entries.{Amounts, Canx, CardPayment, Item, ItemKey, ReportedDocument, Rfnd, Tax, Tktt, TransactionCode}
 use Rattle.bsp_rows.specs.Transaction.{Transaction}
 use Rattle.bsp_store_base.specs.Base.{agent_in, amount_in, below, code_in, if_there, text_in}
-use Rattle.bsp_store_base.specs.declared.taxes.ItemTax.{ItemTax}
+use Rattle.bsp_store_columns.specs.declared.taxes.ItemTax.{ItemTax}
 
 -- ---- a column
 

@@ -3,7 +3,7 @@ use Rattle.std.proofs.Common.{[], ◌∷◌}
 use Rattle.sqlite_value.specs.Order.{Row}
 use Rattle.bsp_store_base.specs.Entries.{Item, item_cmp, ItemKey, ReportedDocument, Tally, tally_cmp, TallyKey}
 use Rattle.bsp_store_base.specs.Base.{agent_text, airline_text, flag, item_row, item_table, item_tax_row, item_tax_table, MapTable, number_text, period_text, second_related_table, second_row, tally_tax_row, tally_tax_table, ticket_cmp}
-use Rattle.bsp_store_base.specs.declared.tickets.TicketKey.{TicketKey}
+use Rattle.bsp_store_columns.specs.declared.tickets.TicketKey.{TicketKey}
 
 -- ---- items and their taxes
 

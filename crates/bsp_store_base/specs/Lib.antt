@@ -5,10 +5,7 @@ pub mod Kept
 pub mod Simple
 pub mod Synced
 pub mod Columns
-pub mod Airlines
 pub mod Seconds
-pub mod Taxes
-pub mod Reading
 pub mod Content
 pub mod Calls
 pub mod Forms
@@ -19,7 +16,4 @@ pub mod Order
 pub mod Made
 pub mod Base
 pub mod ItemReading
-pub mod Written
-pub mod TaxReading
-pub mod TaxWritten
 pub mod ItemTables

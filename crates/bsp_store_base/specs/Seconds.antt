@@ -1,11 +1,12 @@
 -- The second related documents of items, by the keys of their tickets.
-use Rattle.std.specs.Prelude.{Bool, false, if◌then◌else◌, None, Option, option_and_then, option_map, Some, true, filter_map}
+use Rattle.std.specs.Prelude.{Bool, false, if◌then◌else◌, None, Option, option_and_then, option_map, true, filter_map}
 use Rattle.std.specs.Cmp.{IsTotalOrder, nat_cmp_total, on_total, then_total}
 use Rattle.bsp_store_base.specs.Std.{entries, FinMap, from_sorted, nat_cmp, on, then_cmp, Ordering}
 use Rattle.bsp_rows.specs.GroupValues.{second_of}
 use Rattle.bsp_store_base.specs.Entries.{Item, ItemKey, ReportedDocument, TicketKey}
 use Rattle.bsp_rows.specs.Rows.{item_cmp}
 use Rattle.bsp_store_base.specs.Synced.{with_value}
+pub use Rattle.bsp_store_columns.specs.Tickets.{ticket, ticket_of}
 
 -- by agent, and then by number
 abbrev pub ticket_cmp : TicketKey → TicketKey → Ordering
@@ -13,14 +14,6 @@ ticket_cmp = then_cmp (on (λ k. k.agent) nat_cmp) (on (λ k. k.number) nat_cmp)
 
 pub ticket_total : IsTotalOrder ticket_cmp
 ticket_total = then_total (on_total (λ (k : TicketKey). k.agent) nat_cmp_total) (on_total (λ (k : TicketKey). k.number) nat_cmp_total)
-
--- the agent and the number of an item's key
-abbrev pub ticket : ItemKey → TicketKey
-ticket k = record { agent = k.agent; number = k.number }
-
--- those of a CANX are no ticket's
-abbrev pub ticket_of : ItemKey → Option TicketKey
-ticket_of k = if k.is_canx then None else Some (ticket k)
 
 -- the key of the TKTT or RFND
 abbrev pub sale_at : TicketKey → ItemKey

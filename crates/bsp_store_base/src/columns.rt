@@ -1,12 +1,10 @@
 //! Reading the columns that only an item's row has.
 
-ghost use Rattle.std.specs.Prelude.{◌≡◌, ◌≤◌, ◌+◌, ◌^◌, length, take, drop, option_and_then};
+ghost use Rattle.std.specs.Prelude.{◌≡◌, ◌≤◌, ◌+◌, length, take, drop, option_and_then};
 ghost use Rattle.sqlite_value.specs.Order.{column};
 ghost use Rattle.bsp_ret_writer.specs.Columns.{columns};
-ghost use Rattle.bsp_store_base.specs.Reading.{below};
 ghost use Rattle.bsp_store_base.specs.ItemReading.{flag_in, kind_in, kind_of, tax_in, taxes_in, wide_in};
 
-use crate::below_at;
 use bsp_fields::read_amount as read_zoned;
 use bsp_rows::{Tax, TransactionCode};
 use sqlite::Row;
@@ -30,13 +28,6 @@ pub(crate) fn read_wide<const N: usize>(row: &Row, at: usize) -> Option<[u8; N]>
         Ok(ValueRef::Text(text)) => <[u8; N]>::try_from(text).ok(),
         _ => None,
     }
-}
-
-/// Reads a rate.
-pub(crate) fn read_rate(row: &Row, at: usize) -> Option<u16>
-    ensures { result ≡ below (2 ^ 16) (column row.now at) }
-{
-    Some(below_at(row, at, 1 << 16)? as u16)
 }
 
 fn kind_of(text: &[u8]) -> Option<TransactionCode>

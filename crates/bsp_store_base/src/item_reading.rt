@@ -5,12 +5,14 @@ ghost use Rattle.bsp_store_base.specs.Sqlite.{column, Int};
 ghost use Rattle.bsp_fields.specs.CivilDay.{CivilDay, is_day};
 ghost use Rattle.bsp_fields.specs.Days.{day_number};
 ghost use Rattle.bsp_store_base.specs.ItemReading.{amounts_in, card_in, document_in, item_in, key_in, numbered, related_in, reported_in, transaction_in};
-ghost use Rattle.bsp_store_base.specs.Reading.{amount_in, if_there};
+ghost use Rattle.bsp_store_columns.specs.Reading.{amount_in, if_there};
 
-use crate::columns::{read_flag, read_kind, read_rate, read_taxes, read_wide};
-use crate::{ItemTax, agent_at, airline_at, amount_at, day_at, is_null, number_at, period_at};
+use crate::columns::{read_flag, read_kind, read_taxes, read_wide};
 use bsp_fields::{AirlineCode, Amount, Day, DocNumber};
 use bsp_rows::{Amounts, CardPayment, Item, ItemKey, ReportedDocument, Transaction};
+use bsp_store_columns::{
+    ItemTax, agent_at, airline_at, amount_at, below_at, day_at, is_null, number_at, period_at,
+};
 use sqlite::Row;
 
 /// Reads the item of a key out of a row, whatever another program wrote there. Its tax and its second related document
@@ -114,7 +116,7 @@ fn read_document(row: &Row, number: DocNumber) -> Option<ReportedDocument>
 
 /// Reads the document whose airline is in one column and whose number is in another. Its check digit is that of its
 /// number.
-pub fn read_reported(row: &Row, airline: usize, number: usize) -> Option<ReportedDocument>
+fn read_reported(row: &Row, airline: usize, number: usize) -> Option<ReportedDocument>
     ensures { result ≡ reported_in airline number row.now }
 {
     let airline = airline_at(row, airline)?;
@@ -136,7 +138,7 @@ fn read_amounts(row: &Row) -> Option<Amounts>
 {
     let fare = amount_at(row, 9)?;
     let taxes = read_taxes(row, 10)?;
-    let rate = read_rate(row, 11)?;
+    let rate = below_at(row, 11, 1 << 16)? as u16;
     let commission = amount_at(row, 12)?;
     Some(Amounts {
         fare,

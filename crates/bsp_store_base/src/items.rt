@@ -1,32 +1,22 @@
 //! The table of the items.
 
-ghost use Rattle.bsp_store_base.specs.MapTables.{HasRun};
+ghost use Rattle.std.specs.Prelude.{◌≡◌};
+ghost use Rattle.bsp_store_columns.specs.Cells.{written};
 ghost use Rattle.bsp_store_base.specs.ItemTables.{item_key_row};
 
-use crate::row::{ItemRow, flag};
-use crate::{KeyedTable, Statements, agent_digits, number_digits, table};
+use crate::{KeyedTable, Statements};
 use bsp_rows::{Item, ItemKey};
-use sqlite::{Alter, Connection, Error};
-use sqlite_value::value::ValueRef;
+use bsp_store_columns::{Cell, agent_digits, number_digits, table};
 
-/// Runs a statement whose parameters are the columns of an item's key.
-pub(crate) fn run_on_item_key<S: Alter>(
-    conn: &mut Connection<S>,
-    text: &str,
-    key: &ItemKey,
-) -> Result<usize, Error>
-    ensures { HasRun S.Store text.now (item_key_row key.now) conn.old conn.new result }
+/// The cells of an item's key.
+pub(crate) fn item_key_cells(key: &ItemKey) -> [Cell; 3]
+    ensures { written result ≡ item_key_row key.now }
 {
-    let agent = agent_digits(key.agent);
-    let number = number_digits(key.number);
-    conn.execute(
-        text,
-        &[
-            ValueRef::Text(&agent),
-            ValueRef::Text(&number),
-            flag(key.is_canx),
-        ],
-    )
+    [
+        Cell::Eight(agent_digits(key.agent)),
+        Cell::Ten(number_digits(key.number)),
+        Cell::flag(key.is_canx),
+    ]
 }
 
 /// The table of the items, their taxes and second related documents apart.
@@ -35,6 +25,10 @@ pub struct Items;
 impl KeyedTable<ItemKey, Item> for Items {
     ghost use Rattle.bsp_rows.specs.Rows.{item_cmp};
     ghost use Rattle.bsp_store_base.specs.ItemTables.{items_map};
+
+    type KeyCells = [Cell; 3];
+
+    type Entry = (ItemKey, Item);
 
     ghost order = { item_cmp };
 
@@ -49,22 +43,11 @@ impl KeyedTable<ItemKey, Item> for Items {
         }
     }
 
-    fn run_on_key<S: Alter>(
-        &self,
-        conn: &mut Connection<S>,
-        text: &str,
-        key: &ItemKey,
-    ) -> Result<usize, Error> {
-        run_on_item_key(conn, text, key)
+    fn key_cells(&self, key: &ItemKey) -> [Cell; 3] {
+        item_key_cells(key)
     }
 
-    fn run_on_row<S: Alter>(
-        &self,
-        conn: &mut Connection<S>,
-        text: &str,
-        key: &ItemKey,
-        item: &Item,
-    ) -> Result<usize, Error> {
-        conn.execute(text, &ItemRow::of(key, item).values())
+    fn entry(&self, key: &ItemKey, item: &Item) -> (ItemKey, Item) {
+        (*key, *item)
     }
 }

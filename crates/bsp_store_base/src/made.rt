@@ -5,7 +5,7 @@ ghost use Rattle.bsp_store_base.specs.Sqlite.{HasCleanDisk, state, Survives};
 ghost use Rattle.bsp_store_base.specs.Made.{HasNoRows};
 ghost use Rattle.bsp_store_base.specs.Schema.{no_schema, our_schema};
 
-use crate::table;
+use bsp_store_columns::table;
 use sqlite::{Alter, Connection, Error, Transaction};
 
 /// The texts that make the tables, in the order of their trees.

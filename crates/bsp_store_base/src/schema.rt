@@ -4,7 +4,7 @@ ghost use Rattle.std.specs.Prelude.{◌≡◌, ◌↔◌, map, IsTrue};
 ghost use Rattle.bsp_store_base.specs.Schema.{IsOneOf, of_form, our_schema, our_tables};
 
 use crate::plain::{Form, Strict, Unique, have_forms};
-use crate::table;
+use bsp_store_columns::table;
 use sqlite_schema::schema::{Kind, Schema, Table};
 
 const META: Strict = table!(meta, form);

@@ -5,7 +5,7 @@ use Rattle.bsp_store_base.proofs.Entries.{contains_cases, contains_head, contain
 use Rattle.sqlite_value.specs.Order.{Row}
 use Rattle.bsp_rows.specs.Requests.{AreDistinct, same_airline}
 use Rattle.bsp_store_base.proofs.Base.{airline_entries, airline_row, entry_of, get-airline_entries, IsAirlineEntry, place_among, place_of, placed}
-use Rattle.bsp_store_base.specs.declared.airlines.AirlineEntry.{AirlineEntry}
+use Rattle.bsp_store_columns.specs.declared.airlines.AirlineEntry.{AirlineEntry}
 use Rattle.bsp_store_load.specs.Stored.{AreReadAs, IsFormedPlan, IsListedAirline, code_token, gathered, placed_code}
 use Rattle.bsp_store_load.proofs.CloseLemmas.{of_entries}
 use Rattle.bsp_store_load.proofs.Gathering.{Gives, gathered_is}

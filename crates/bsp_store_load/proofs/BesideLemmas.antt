@@ -2,7 +2,7 @@
 use Rattle.bsp_store_base.proofs.Std.{[], ◌&&◌, ◌∙◌, ◌∷◌, ◌≡◌, AllByRecursion, ap, below_all, Bool, cond, cons_option, entries, entries-from_sorted, entries_sorted, eq_by_cmp, false, filter_map, find, FinMap, get, get-entries, get-from_sorted, is_lt, is_sorted, List, list_any, map, None, Option, option_map, or_parts, refl, slice_index_or, Some, subst, sym, T, true}
 use Rattle.bsp_store_base.proofs.Entries.{is_wrong_place, IsRight, Item, item_cmp, ItemKey, ReportedDocument, second_of}
 use Rattle.bsp_store_base.proofs.Base.{entries-seconds_of, IsItemEntry, IsSecondEntry, IsTaxEntry, item_tax_row, second_entry, second_pair, seconds_of, tax_row, tax_with, ticket}
-use Rattle.bsp_store_base.specs.declared.tickets.TicketKey.{TicketKey}
+use Rattle.bsp_store_columns.specs.declared.tickets.TicketKey.{TicketKey}
 use Rattle.bsp_store_base.proofs.TaxBack.{tax_formed}
 use Rattle.bsp_store_load.specs.Beside.{IsSecond, tax_entry, taxes_of}
 

@@ -2,8 +2,8 @@
 use Rattle.bsp_store_base.proofs.Std.{◌≡◌, FinMap, get, insert, None, refl, sym}
 use Rattle.bsp_store_base.proofs.Entries.{item_cmp, item_total, ItemKey, ReportedDocument}
 use Rattle.bsp_store_base.proofs.Base.{IsTaxEntry, item_tax_part, second_part, second_row, tax_row, ticket_cmp, ticket_total}
-use Rattle.bsp_store_base.specs.declared.taxes.ItemTax.{ItemTax}
-use Rattle.bsp_store_base.specs.declared.tickets.TicketKey.{TicketKey}
+use Rattle.bsp_store_columns.specs.declared.taxes.ItemTax.{ItemTax}
+use Rattle.bsp_store_columns.specs.declared.tickets.TicketKey.{TicketKey}
 use Rattle.bsp_store_load.specs.Beside.{IsSecond, taxes_of}
 use Rattle.bsp_store_load.proofs.BesideLemmas.{tax_rows}
 use Rattle.bsp_store_load.proofs.Loaders.{Loader}

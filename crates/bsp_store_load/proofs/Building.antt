@@ -13,8 +13,8 @@ pub formed_plan : (book : Rows) (c : Content) → IsContentOf book c → IsForme
 formed_plan book c of formed =
     let f : IsFormed (content_with book c.tallies) = subst IsFormed of.same formed in
     record {
-      day = f.meta.has_day;
-      closed = f.meta.has_closed;
+      day = f.meta.0;
+      closed = f.meta.1;
       terms = f.terms;
       airlines = f.airlines;
       rates = f.rates;

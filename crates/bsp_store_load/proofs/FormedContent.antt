@@ -10,7 +10,7 @@ use Rattle.bsp_rows.specs.PostingsTallies.{is_item_under, is_memo_under}
 use Rattle.bsp_rows.specs.Stored.{InEach, IsStoredDocument}
 use Rattle.bsp_memory_rows.specs.Lookups.{has_rows}
 use Rattle.bsp_store_base.proofs.Base.{airline_entries, Content, content_with, entries-seconds_of, entry_of, get-airline_entries, IsAgent, IsAgentEntry, IsAirline, IsAirlineEntry, IsFormed, IsItemEntry, IsMemoEntry, IsRangeEntry, IsSecondEntry, IsTallyKey, place_among, place_of, placed, second_entry, second_pair, ticket}
-use Rattle.bsp_store_base.specs.declared.airlines.AirlineEntry.{AirlineEntry}
+use Rattle.bsp_store_columns.specs.declared.airlines.AirlineEntry.{AirlineEntry}
 use Rattle.bsp_store_load.specs.Contents.{IsContentOf, used}
 use Rattle.bsp_store_load.specs.Formed.{AreFormed, IsFormedItem, IsFormedMemo, IsFormedPublished, IsRegisteredAirline, OnEach}
 use Rattle.bsp_store_load.proofs.CloseLemmas.{of_entries}
@@ -77,14 +77,14 @@ module _ (rows : Rows) (formed : AreFormed rows) where
       go None unplaced None none is = absurd (cc is)
       go None unplaced (Some token) there is =
           let own = formed.airlines q token there in
-          subst (λ (e : AirlineEntry). IsAirlineEntry (q, e)) (same_Some _ a is) (record { airline = own.airline; place = λ x other. absurd (cc other); token = own.token })
+          subst (λ (e : AirlineEntry). IsAirlineEntry (q, e)) (same_Some _ a is) ((own.airline.has_digits, (λ x other. absurd (cc other)), own.token))
       go (Some place) there None none is =
           let own = at_place (λ e. IsAirline e.1 × (e.0 ≤ length rows.published.airlines)) q (placed 0 rows.published.airlines) place all_placed there in
-          subst (λ (e : AirlineEntry). IsAirlineEntry (q, e)) (same_Some _ a is) (record { airline = own.0; place = stored place own.1; token = tt })
+          subst (λ (e : AirlineEntry). IsAirlineEntry (q, e)) (same_Some _ a is) ((own.0.has_digits, stored place own.1, tt))
       go (Some place) there (Some token) has is =
           let own = at_place (λ e. IsAirline e.1 × (e.0 ≤ length rows.published.airlines)) q (placed 0 rows.published.airlines) place all_placed there in
           subst (λ (e : AirlineEntry). IsAirlineEntry (q, e)) (same_Some _ a is)
-          (record { airline = own.0; place = stored place own.1; token = (formed.airlines q token has).token })
+          ((own.0.has_digits, stored place own.1, (formed.airlines q token has).token))
 
 -- ---- tallies
 
@@ -143,7 +143,7 @@ module _ (rows : Rows) (formed : AreFormed rows) where
 
   memos_tallied : AllByRecursion IsTalliedMemo (values rows.memos)
   memos_tallied = of_values IsTalliedMemo (entries rows.memos)
-      (of_entries memo_total memo_exact (λ e. IsTalliedMemo e.1) rows.memos (λ k m at. let own = formed.memos k m at in record { agent = own.entry.agent; airline = own.airline; billed = own.entry.billed }))
+      (of_entries memo_total memo_exact (λ e. IsTalliedMemo e.1) rows.memos (λ k m at. let own = formed.memos k m at in record { agent = search own.entry; airline = own.airline; billed = search own.entry }))
 
   -- a key to whose tally some row adds
   tally_formed : (k : TallyKey) → has_rows (tally_of k rows) ≡ true → IsTallyKey k
@@ -173,7 +173,7 @@ seconds_each (e ∷ es) formed = go (seconds_each es formed.1) e.0.is_canx (seco
     go : AllByRecursion IsSecondEntry (filter_map second_entry es) → (b : Bool) (o : Option ReportedDocument) → second_of e.1.transaction ≡ o → AllByRecursion IsSecondEntry (cons_option (second_pair b (ticket e.0) o) (filter_map second_entry es))
     go rest true o is = rest
     go rest false None is = rest
-    go rest false (Some d) is = (record { agent = formed.0.agent; number = formed.0.number; document = second_in_each e.1.transaction.related d formed.0.stored.related is }, rest)
+    go rest false (Some d) is = let document = second_in_each e.1.transaction.related d formed.0.stored.related is in ((formed.0.agent, formed.0.number, document.airline, document.number), rest)
 
 -- ---- the content
 
@@ -184,7 +184,7 @@ formed_content rows c formed of =
     of_entries tally_total tally_exact (λ e. IsTallyKey e.0) c.tallies (λ k t at. used_formed rows formed k t (sym (of.tallies k) ∙ at)) in
     let own : IsFormed (content_with rows c.tallies) = record {
       places = record { rates = formed.plan.rate_count; periods = formed.plan.period_count; commission_taxes = formed.plan.commission_tax_count };
-      meta = record { has_day = formed.plan.day; has_closed = formed.plan.closed_count };
+      meta = (formed.plan.day, formed.plan.closed_count);
       terms = formed.plan.terms;
       airlines = of_entries nat_cmp_total nat_cmp-IsAntisymmetric IsAirlineEntry (airline_entries rows.published.airlines rows.airlines) (airline_formed rows formed);
       rates = formed.plan.rates;
@@ -252,7 +252,7 @@ module _ (rows : Rows) (formed : AreFormed rows) where
   pub billing_formed : (key : MemoKey) (period : ℕ) → period < 10 ^ 5 → AreFormed (with_billing key period rows)
   billing_formed key period own =
       let memos = each_changed memo_total memo_exact IsFormedMemo rows.memos key (billed_in period)
-      (λ m was. record { entry = record { airline = was.entry.airline; document = was.entry.document; agent = was.entry.agent; reason = was.entry.reason; issued = was.entry.issued; billed = own }; airline = was.airline }) formed.memos in
+      (λ m was. record { entry = search (was.entry, own); airline = was.airline }) formed.memos in
       each_formed _ formed.plan formed.agents formed.airlines formed.ranges formed.items memos
 
   pub plan_formed : (p : Published) → IsFormedPublished p → AreFormed (record rows { published = p })

@@ -4,8 +4,8 @@ use Rattle.bsp_store_base.proofs.Entries.{Canx, IsRight, Item, item_cmp, item_ex
 use Rattle.bsp_rows.specs.RulesRows.{is_canx}
 use Rattle.bsp_rows.specs.Meanings.{ends_tickets}
 use Rattle.bsp_store_base.proofs.Base.{get-seconds_of, IsItemEntry, sale_at, second_in, seconds_of, tax_with, ticket, ticket_cmp}
-use Rattle.bsp_store_base.specs.declared.taxes.ItemTax.{ItemTax}
-use Rattle.bsp_store_base.specs.declared.tickets.TicketKey.{TicketKey}
+use Rattle.bsp_store_columns.specs.declared.taxes.ItemTax.{ItemTax}
+use Rattle.bsp_store_columns.specs.declared.tickets.TicketKey.{TicketKey}
 use Rattle.bsp_store_load.specs.Beside.{IsJoined, IsStoredItem, second_at, taxes_of}
 use Rattle.bsp_store_load.proofs.BesideLemmas.{get-taxes_of}
 use Rattle.bsp_store_load.proofs.CloseLemmas.{of_entries}

@@ -21,9 +21,9 @@ pub mod TallyLemmas
 pub mod NothingLemmas
 pub mod FormedContent
 pub use Rattle.bsp_rows.proofs.KeptLemmas
-pub use Rattle.bsp_store_base.proofs.AirlineLemmas
+pub use Rattle.bsp_store_columns.proofs.AirlineLemmas
 pub use Rattle.bsp_store_base.proofs.Held
-pub use Rattle.bsp_store_base.proofs.Placing
+pub use Rattle.bsp_store_columns.proofs.Placing
 pub use Rattle.bsp_store_base.proofs.Rising
 pub use Rattle.bsp_store_base.proofs.SecondLemmas
 pub use Rattle.bsp_store_base.proofs.Syncing

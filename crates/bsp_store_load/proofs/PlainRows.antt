@@ -1,8 +1,8 @@
 -- The rows of the tables have no real numbers.
 use Rattle.std.proofs.Common.{◌≡◌, false, refl, Option, Some, None}
 use Rattle.bsp_store_base.proofs.Sqlite.{Int, or_null, Text, Value}
-use Rattle.bsp_store_base.proofs.Entries.{Amounts, Item, ItemKey, MemoFields, MemoKey, related_of}
-use Rattle.bsp_store_base.specs.Columns.{airline_text, count, item_row, memo_row, period_text, taxes_text}
+use Rattle.bsp_store_base.proofs.Entries.{Amounts, Item, ItemKey, related_of}
+use Rattle.bsp_store_base.specs.Columns.{airline_text, count, item_row, taxes_text}
 use Rattle.bsp_store_load.specs.Loading.{has_real, is_real}
 
 plain_or : {A : Type 0} (f : A → Value) (o : Option A) → ((x : A) → is_real (f x) ≡ false) → is_real (or_null f o) ≡ false
@@ -24,6 +24,3 @@ plain_item e =
       plain_or Int t.exchange (λ n. refl),
       plain_or (λ p. Text p.vendor) t.credit (λ p. refl),
     ) refl
-
-pub plain_memo : (e : MemoKey × MemoFields) → has_real (memo_row e) ≡ false
-plain_memo e = rw (plain_or period_text e.1.billed (λ p. refl)) refl

@@ -2,7 +2,7 @@
 use Rattle.bsp_store_base.proofs.Std.{◌≡◌, ap, FinMap, get, insert, None, refl, true}
 use Rattle.bsp_store_base.proofs.Entries.{is_memo, Item, item_cmp, item_total, ItemKey, key_of, memo_cmp, memo_key, memo_total, MemoFields, MemoKey, ReportedDocument, Rows, with_item, with_memo}
 use Rattle.bsp_store_base.proofs.Base.{IsMemoEntry, item_part, item_row, memo_part, memo_row, ticket_cmp}
-use Rattle.bsp_store_base.specs.declared.taxes.ItemTax.{ItemTax}
+use Rattle.bsp_store_columns.specs.declared.taxes.ItemTax.{ItemTax}
 use Rattle.bsp_store_load.specs.Beside.{IsStoredItem}
 use Rattle.bsp_store_load.proofs.Loaders.{Loader}
 

@@ -4,7 +4,7 @@ use Rattle.std.specs.Ordering.{eq_by_cmp, is_eq}
 use Rattle.bsp_store_base.proofs.Sqlite.{Row, Trees}
 use Rattle.bsp_store_base.proofs.Entries.{Item, item_cmp, item_exact, item_total, ItemKey, key_of, no_length, ReportedDocument, Rows, with_item}
 use Rattle.bsp_store_base.proofs.Base.{item_part, item_row, tax_with, ticket_cmp}
-use Rattle.bsp_store_base.specs.declared.taxes.ItemTax.{ItemTax}
+use Rattle.bsp_store_columns.specs.declared.taxes.ItemTax.{ItemTax}
 use Rattle.bsp_store_load.specs.Beside.{IsAwaited, IsRelatedItem, IsStoredItem, LacksItem, Taxed, kept_tax, taxes_of}
 use Rattle.bsp_store_load.specs.Loading.{IsLoaded, LeavesRow, MayAll, after_all}
 use Rattle.bsp_store_load.proofs.BesideLemmas.{get-taxes_of}

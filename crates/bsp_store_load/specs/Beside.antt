@@ -3,8 +3,8 @@ use Rattle.std.specs.Prelude.{◌≡◌, false, None, Option, option_and_then, o
 use Rattle.bsp_store_base.specs.Std.{entries, FinMap, from_sorted, get, option_xor}
 use Rattle.bsp_store_base.specs.Entries.{HasNumberKey, is_wrong_place, IsRight, Item, item_cmp, ItemKey, key_of, ReportedDocument, Rows, second_of}
 use Rattle.bsp_store_base.specs.Base.{IsItemEntry, IsSecondEntry, tax_with, ticket_cmp, ticket_of}
-use Rattle.bsp_store_base.specs.declared.taxes.ItemTax.{ItemTax}
-use Rattle.bsp_store_base.specs.declared.tickets.TicketKey.{TicketKey}
+use Rattle.bsp_store_columns.specs.declared.taxes.ItemTax.{ItemTax}
+use Rattle.bsp_store_columns.specs.declared.tickets.TicketKey.{TicketKey}
 
 -- ---- taxes
 

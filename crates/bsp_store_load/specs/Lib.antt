@@ -11,8 +11,8 @@ pub use Rattle.bsp_memory_rows.specs.Plans
 pub use Rattle.bsp_memory_rows.specs.Tables as MemoryRowsTables
 pub use Rattle.bsp_memory_rows.specs.declared.saved_plan.SavedPlan
 pub use Rattle.bsp_memory_rows.specs.declared.tables.Tables
-pub use Rattle.bsp_store_base.specs.Airlines
-pub use Rattle.bsp_store_base.specs.declared.airlines.AirlineEntry
+pub use Rattle.bsp_store_columns.specs.Airlines
+pub use Rattle.bsp_store_columns.specs.declared.airlines.AirlineEntry
 pub use Rattle.bsp_store_base.specs.Calls
 pub use Rattle.bsp_store_base.specs.Columns
 pub use Rattle.bsp_store_base.specs.Content
@@ -22,9 +22,9 @@ pub use Rattle.bsp_store_base.specs.Schema
 pub use Rattle.bsp_store_base.specs.Seconds
 pub use Rattle.bsp_store_base.specs.Shows
 pub use Rattle.bsp_store_base.specs.Synced
-pub use Rattle.bsp_store_base.specs.Taxes
-pub use Rattle.bsp_store_base.specs.declared.taxes.ItemTax
-pub use Rattle.bsp_store_base.specs.declared.tickets.TicketKey
+pub use Rattle.bsp_store_columns.specs.Taxes
+pub use Rattle.bsp_store_columns.specs.declared.taxes.ItemTax
+pub use Rattle.bsp_store_columns.specs.declared.tickets.TicketKey
 pub use Rattle.bsp_rows.specs.Item
 pub use Rattle.bsp_rows.specs.Memos
 pub use Rattle.bsp_rows.specs.Published

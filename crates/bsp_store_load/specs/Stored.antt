@@ -3,7 +3,7 @@ use Rattle.std.specs.Prelude.{[], ◌<◌, ◌^◌, ◌∷◌, ◌≡◌, IfSome
 use Rattle.bsp_store_base.specs.Std.{AllByRecursion, entries, FinMap, insert, nat_cmp, Ordering}
 use Rattle.bsp_store_base.specs.Entries.{after_request, Close, is_day, Period, Published, request_answer, Rows}
 use Rattle.bsp_store_base.specs.Base.{airline_entries, airline_row, AreTerms, commission_tax_row, entry_of, IsAirlineEntry, IsCommissionTax, IsPeriod, IsRate, meta_rows, period_row, placed, rate_row, terms_rows}
-use Rattle.bsp_store_base.specs.declared.airlines.AirlineEntry.{AirlineEntry}
+use Rattle.bsp_store_columns.specs.declared.airlines.AirlineEntry.{AirlineEntry}
 use Rattle.bsp_memory_rows.specs.declared.tables.Tables.{Tables}
 use Rattle.bsp_memory_rows.specs.Tables.{IsDerived, WasDerived, committed_rows, rows_of}
 use Rattle.bsp_store_load.specs.Formed.{IsRegisteredAirline, OnEach}

@@ -8,14 +8,13 @@ ghost use Rattle.bsp_memory_rows.specs.Tables.{rows_of};
 ghost use Rattle.bsp_store_base.specs.Base.{airline_entries, airline_row, HasStoredPlace, placed, published_at, registered, with_published};
 ghost use Rattle.bsp_store_load.specs.Stored.{IsListedAirline};
 
-use crate::equal::is_row;
+use crate::equal::is_entry;
 use crate::listed::{RowOf, are_rows_of};
 use crate::plan_rows::ReadsAs;
 use bsp_maps::Rule;
 use bsp_memory_rows::Tables;
 use bsp_rows::{AirlineCode, Token};
-use bsp_store_base::AirlineEntry;
-use bsp_store_rows::{airline_cells, read_airline};
+use bsp_store_columns::{AirlineEntry, read_entry};
 use sqlite::Row;
 use std::alloc::{AllocError, Global};
 use std::collections::BTreeMap;
@@ -93,7 +92,7 @@ impl RowOf<AirlineCode, AirlineEntry> for Airlines {
     ghost has_row = { λ e. HasStoredPlace e.1 };
 
     fn is_row_of(&self, row: &Row, code: &AirlineCode, airline: &AirlineEntry) -> bool {
-        airline.has_stored_place() && is_row(row, &airline_cells(*code, airline))
+        airline.has_stored_place() && is_entry(row, &(*code, *airline))
     }
 }
 
@@ -101,7 +100,7 @@ impl ReadsAs<(AirlineCode, AirlineEntry)> for Airlines {
     ghost is_in = { λ e row. IsListedAirline e × (row ≡ airline_row e) };
 
     fn read(&self, row: &Row) -> Option<(AirlineCode, AirlineEntry)> {
-        read_airline(row)
+        read_entry(row)
     }
 }
 

@@ -6,14 +6,14 @@ ghost use Rattle.std.specs.FinMap.{empty, entries, FinMap, from_entries};
 ghost use Rattle.std.specs.Ordering.{nat_cmp};
 ghost use Rattle.bsp_rows.specs.Requests.{AreDistinct, same_airline};
 ghost use Rattle.bsp_memory_rows.specs.Tables.{IsDerived, rows_of};
-ghost use Rattle.bsp_store_base.specs.Airlines.{airline_entries};
+ghost use Rattle.bsp_store_columns.specs.Airlines.{airline_entries};
 ghost use Rattle.bsp_store_load.specs.Formed.{IsRegisteredAirline, OnEach};
 ghost use Rattle.bsp_store_load.specs.Stored.{ChangesTokens, with_pair};
 
 use crate::formed::formed_airline;
 use bsp_memory_rows::{NoRoom, Tables};
 use bsp_rows::{AirlineCode, Token};
-use bsp_store_base::AirlineEntry;
+use bsp_store_columns::AirlineEntry;
 use std::alloc::{AllocError, Global};
 use std::collections::BTreeMap;
 

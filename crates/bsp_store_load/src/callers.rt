@@ -8,15 +8,13 @@ ghost use Rattle.bsp_store_base.specs.Base.{agent_part, agent_row, IsAgentEntry,
 ghost use Rattle.bsp_store_load.specs.Adding.{agent_added, range_added};
 ghost use Rattle.bsp_store_load.specs.Formed.{AreWhole};
 
-use crate::equal::is_row;
 use crate::formed::{formed_agent, formed_range};
 use crate::load::StoredTable;
 use bsp_memory_rows::{NoRoom, Tables};
 use bsp_rows::{AgentCode, DocNumber, RangeKey, Token};
 use bsp_store_base::KeyedTable;
-use bsp_store_rows::{
-    Agents as AgentTable, Ranges as RangeTable, agent_cells, range_cells, read_agent, read_range,
-};
+use bsp_store_columns::read_entry;
+use bsp_store_rows::{Agents as AgentTable, Ranges as RangeTable};
 use sqlite::Row;
 
 /// Tokens of agents.
@@ -49,12 +47,9 @@ impl StoredTable<AgentCode, Token, Tables> for Agents {
     }
 
     fn put(&self, tables: &mut Tables, row: &Row) -> Result<bool, NoRoom> {
-        let Some((agent, token)) = read_agent(row) else {
+        let Some((agent, token)) = read_entry::<(AgentCode, Token)>(row) else {
             return Ok(false);
         };
-        if !is_row(row, &agent_cells(agent, &token)) {
-            return Ok(false);
-        }
         if tables.agent_token(agent).is_some() {
             return Ok(false);
         }
@@ -95,17 +90,15 @@ impl StoredTable<RangeKey, DocNumber, Tables> for Ranges {
     }
 
     fn put(&self, tables: &mut Tables, row: &Row) -> Result<bool, NoRoom> {
-        let Some((key, last)) = read_range(row) else {
+        let Some(entry) = read_entry::<(RangeKey, DocNumber)>(row) else {
             return Ok(false);
         };
-        if !is_row(row, &range_cells(&key, last)) {
+        let (key, last) = &entry;
+        if tables.range_table().get(*key).is_some() {
             return Ok(false);
         }
-        if tables.range_table().get(key).is_some() {
-            return Ok(false);
-        }
-        formed_range(key, last);
-        tables.add_range(key.agent, &key.up_to(last))?;
+        formed_range(*key, *last);
+        tables.add_range(key.agent, &key.up_to(*last))?;
         tables.commit();
         Ok(true)
     }

@@ -3,7 +3,7 @@
 ghost use Rattle.std.specs.Prelude.{◌≡◌, IfOk, IfSome, IsSomeAnd, IsTrue, List, OnOk, true, ℕ};
 ghost use Rattle.std.specs.FinMap.{empty, FinMap};
 ghost use Rattle.std.specs.Ordering.{nat_cmp};
-ghost use Rattle.bsp_store_base.specs.Entries.{IsSoundPlan, no_rows, opening, Published, Rows};
+ghost use Rattle.bsp_store_base.specs.Entries.{IsSoundPlan, no_rows, opening, Published};
 ghost use Rattle.bsp_memory_rows.specs.Tables.{rows_of};
 ghost use Rattle.bsp_store_load.specs.Formed.{AreWhole};
 ghost use Rattle.bsp_store_load.specs.Stored.{AreRowsOfPlan, IsFormedPlan, PutsPlan};

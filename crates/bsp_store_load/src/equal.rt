@@ -1,11 +1,10 @@
 //! Whether a row has these values.
 
-ghost use Rattle.std.specs.Prelude.{◌≡◌, ◌<◌, ◌≤◌, ◌∷◌, [], IsTrue, false, length};
+ghost use Rattle.std.specs.Prelude.{◌≡◌, ◌<◌, ◌∷◌, [], IsTrue, false, length};
 ghost use Rattle.bsp_store_base.specs.Sqlite.{bound, bound_value, column, owned};
 ghost use Rattle.bsp_store_load.specs.Loading.{has_real, is_real};
-ghost use Rattle.bsp_store_rows.specs.Cells.{written};
 
-use bsp_store_rows::{Cell, values_of};
+use bsp_store_columns::{CellArray, Entry, values_of};
 use sqlite::Row;
 use sqlite_value::value::ValueRef;
 
@@ -36,7 +35,7 @@ fn is_in_column(row: &Row, at: usize, value: &ValueRef<'_>) -> bool
 }
 
 /// Whether a row has these values. A row with a real number is not said to have them.
-pub fn has_values(row: &Row, values: &[ValueRef<'_>]) -> bool
+fn has_values(row: &Row, values: &[ValueRef<'_>]) -> bool
     ensures same { IsTrue result → row.now ≡ bound values.now }
     ensures whole { row.now ≡ bound values.now → has_real row.now ≡ false → IsTrue result }
 {
@@ -51,23 +50,25 @@ pub fn has_values(row: &Row, values: &[ValueRef<'_>]) -> bool
     true
 }
 
-/// Whether a row has the values of these cells. A row with a real number is not said to have them.
-pub fn is_row(row: &Row, cells: &[Cell]) -> bool
-    requires { length cells.now ≤ 11 }
-    ensures same { IsTrue result → row.now ≡ written cells.now }
-    ensures whole { row.now ≡ written cells.now → has_real row.now ≡ false → IsTrue result }
+/// Whether a row is that of an entry. A row with a real number is not said to be.
+pub fn is_entry<E: Entry>(row: &Row, entry: &E) -> bool
+    requires { E.Entry.fits entry.now }
+    ensures same { IsTrue result → row.now ≡ E.Entry.row entry.now }
+    ensures whole { row.now ≡ E.Entry.row entry.now → has_real row.now ≡ false → IsTrue result }
 {
+    let cells = entry.cells();
+    let cells = cells.as_cells();
     has_values(row, &values_of(cells)[..cells.len()])
 }
 
-/// Whether there is one row, and it has the values of these cells.
-pub(crate) fn is_only_row(rows: &[Row], cells: &[Cell]) -> bool
-    requires { length cells.now ≤ 11 }
-    ensures same { IsTrue result → rows.now ≡ written cells.now ∷ [] }
-    ensures whole { rows.now ≡ written cells.now ∷ [] → has_real (written cells.now) ≡ false → IsTrue result }
+/// Whether there is one row, and it is that of an entry.
+pub(crate) fn is_only_entry<E: Entry>(rows: &[Row], entry: &E) -> bool
+    requires { E.Entry.fits entry.now }
+    ensures same { IsTrue result → rows.now ≡ E.Entry.row entry.now ∷ [] }
+    ensures whole { rows.now ≡ E.Entry.row entry.now ∷ [] → has_real (E.Entry.row entry.now) ≡ false → IsTrue result }
 {
     match rows.split_first() {
-        Some((row, others)) => others.is_empty() && is_row(row, cells),
+        Some((row, others)) => others.is_empty() && is_entry(row, entry),
         None => false,
     }
 }

@@ -1,7 +1,7 @@
 //! What the program's types say of rows in memory. No function here has an effect: each contract says what every value of
 //! the types that it takes is.
 
-ghost use Rattle.std.specs.Prelude.{◌<◌, ◌^◌, ◌≡◌, IsTrue, length};
+ghost use Rattle.std.specs.Prelude.{◌<◌, ◌^◌, IsTrue, length};
 ghost use Rattle.std.specs.List.{AllByRecursion};
 ghost use Rattle.bsp_store_base.specs.Entries.{InEach, is_day, IsStored, IsStoredTax};
 ghost use Rattle.bsp_store_base.specs.Forms.{AreTerms, IsAgentEntry, IsRangeEntry, IsAirline, IsRate, IsPeriod, IsCommissionTax};

@@ -1,11 +1,11 @@
 //! The table of the taxes of items: each row, put into a map.
 
 use crate::entries::put_new;
-use crate::equal::has_values;
 use crate::load::StoredTable;
 use bsp_memory_rows::NoRoom;
 use bsp_rows::ItemKey;
-use bsp_store_base::{ItemTax, ItemTaxRow, ItemTaxes, KeyedTable, read_item_tax};
+use bsp_store_base::{ItemTaxes, KeyedTable};
+use bsp_store_columns::{ItemTax, read_entry};
 use sqlite::Row;
 use std::collections::BTreeMap;
 
@@ -19,7 +19,7 @@ impl StoredTable<ItemKey, ItemTax, BTreeMap<ItemKey, ItemTax>> for StoredTaxes {
     ghost use Rattle.bsp_rows.specs.Rows.{item_cmp};
     ghost use Rattle.bsp_rows.proofs.KeyOrders.{item_total};
     ghost use Rattle.bsp_store_base.specs.Base.{IsTaxEntry, item_tax_part, tax_row};
-    ghost use Rattle.bsp_store_base.specs.declared.taxes.ItemTax.{ItemTax as TaxEntry};
+    ghost use Rattle.bsp_store_columns.specs.declared.taxes.ItemTax.{ItemTax as TaxEntry};
     ghost use Rattle.bsp_store_load.specs.Adding.{entry_added};
 
     ghost part = { item_tax_part };
@@ -47,12 +47,9 @@ impl StoredTable<ItemKey, ItemTax, BTreeMap<ItemKey, ItemTax>> for StoredTaxes {
     }
 
     fn put(&self, taxes: &mut BTreeMap<ItemKey, ItemTax>, row: &Row) -> Result<bool, NoRoom> {
-        let Some((key, tax)) = read_item_tax(row) else {
+        let Some((key, tax)) = read_entry::<(ItemKey, ItemTax)>(row) else {
             return Ok(false);
         };
-        if !has_values(row, &ItemTaxRow::of(&key, &tax).values()) {
-            return Ok(false);
-        }
         Ok(put_new(taxes, key, tax)?)
     }
 }

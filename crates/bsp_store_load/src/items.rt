@@ -12,12 +12,13 @@ ghost use Rattle.bsp_store_load.specs.Beside.{IsAwaited, IsKeyed, IsStoredItem, 
 ghost use Rattle.bsp_store_load.specs.Formed.{AreWhole};
 ghost use Rattle.bsp_store_load.specs.Adding.{taxed_added};
 
-use crate::equal::has_values;
+use crate::equal::is_entry;
 use crate::formed::formed_item;
 use crate::load::StoredTable;
 use bsp_memory_rows::{NoRoom, Tables};
 use bsp_rows::{Item, ItemKey, ReportedDocument};
-use bsp_store_base::{ItemRow, ItemTax, Items, KeyedTable, TicketKey, read_item, read_item_key};
+use bsp_store_base::{Items, KeyedTable, read_item, read_item_key};
+use bsp_store_columns::{ItemTax, TicketKey};
 use sqlite::Row;
 use std::collections::BTreeMap;
 
@@ -123,12 +124,12 @@ impl<'a> StoredTable<ItemKey, Item, TaxedTables> for StoredItems<'a> {
     }
 
     fn put(&self, memory: &mut TaxedTables, row: &Row) -> Result<bool, NoRoom> {
-        let Some((key, item)) = self.read(&memory.taxes, row) else {
+        let Some(entry) = self.read(&memory.taxes, row) else {
             return Ok(false);
         };
-        if !has_values(row, &ItemRow::of(&key, &item).values()) {
+        if !is_entry(row, &entry) {
             return Ok(false);
         }
-        memory.put(&key, &item)
+        memory.put(&entry.0, &entry.1)
     }
 }

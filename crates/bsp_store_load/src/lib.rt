@@ -29,11 +29,10 @@ mod whole;
 
 pub use bsp_memory_rows::{NoRoom, SavedPlan, Tables};
 pub use bsp_rows::{ItemKey, ReportedDocument};
-pub use bsp_store_base::{ItemTax, TicketKey};
-pub use bsp_store_rows::{VERSION, read_version};
+pub use bsp_store_columns::{ItemTax, TicketKey, VERSION, read_version};
 pub use callers::{Agents, Ranges};
 pub use compared::plan_tables;
-pub use equal::{has_values, is_row};
+pub use equal::is_entry;
 pub use first::has_nothing;
 pub use formed::{
     formed_agent, formed_airline, formed_closed, formed_day, formed_item, formed_memo,

@@ -1,12 +1,12 @@
 //! The table of memos: each row, put into memory.
 
-use crate::equal::is_row;
 use crate::formed::formed_memo;
 use crate::load::StoredTable;
 use bsp_memory_rows::{NoRoom, Tables};
 use bsp_rows::{Memo, MemoKey};
 use bsp_store_base::KeyedTable;
-use bsp_store_rows::{Memos, memo_cells, read_memo};
+use bsp_store_columns::read_entry;
+use bsp_store_rows::Memos;
 use sqlite::Row;
 
 /// Memos.
@@ -47,18 +47,15 @@ impl StoredTable<MemoKey, Memo, Tables> for StoredMemos {
     }
 
     fn put(&self, tables: &mut Tables, row: &Row) -> Result<bool, NoRoom> {
-        let Some(memo) = read_memo(row) else {
+        let Some(entry) = read_entry::<(MemoKey, Memo)>(row) else {
             return Ok(false);
         };
-        let key = MemoKey::of(memo.fields());
-        if !is_row(row, &memo_cells(&key, &memo)) {
+        let (key, memo) = &entry;
+        if tables.memo(*key).is_some() {
             return Ok(false);
         }
-        if tables.memo(key).is_some() {
-            return Ok(false);
-        }
-        formed_memo(key, *memo.fields());
-        tables.put_memo(&memo)?;
+        formed_memo(*key, *memo.fields());
+        tables.put_memo(memo)?;
         tables.commit();
         Ok(true)
     }

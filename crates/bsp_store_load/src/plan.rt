@@ -2,16 +2,12 @@
 
 ghost use Rattle.std.specs.Prelude.{◌≡◌, ◌↔◌, ◌<◌, ◌^◌, ℕ, length, map, IsTrue, Some};
 ghost use Rattle.bsp_store_base.specs.Base.{commission_tax_row, IsCommissionTax, IsPeriod, IsRate, meta_rows, period_row, placed, rate_row, terms_rows};
-ghost use Rattle.bsp_store_rows.specs.Reading.{IsRateRow, IsPeriodRow, IsCommissionTaxRow};
 
-use crate::equal::{is_only_row, is_row};
+use crate::equal::{is_entry, is_only_entry};
 use crate::listed::{RowOf, are_placed_rows_of};
 use crate::plan_rows::ReadsAs;
 use bsp_rows::{CommissionTax, Period, Plan, Rate};
-use bsp_store_rows::{
-    commission_tax_cells, meta_cells, period_cells, rate_cells, read_commission_tax, read_period,
-    read_rate, terms_cells,
-};
+use bsp_store_columns::{Meta, read_entry};
 use sqlite::Row;
 
 /// Whether a count fits the integers of a store.
@@ -31,15 +27,15 @@ impl RowOf<usize, Rate> for Rates {
     ghost has_row = { λ e. e.0 < 2 ^ 63 };
 
     fn is_row_of(&self, row: &Row, place: &usize, rate: &Rate) -> bool {
-        is_integer(*place) && is_row(row, &rate_cells(*place, rate))
+        is_integer(*place) && is_entry(row, &(*place, *rate))
     }
 }
 
 impl ReadsAs<Rate> for Rates {
-    ghost is_in = { λ rate row. IsRate rate × IsRateRow row rate };
+    ghost is_in = { λ rate row. IsRate rate × (place : ℕ) × (row ≡ rate_row (place, rate)) };
 
     fn read(&self, row: &Row) -> Option<Rate> {
-        read_rate(row)
+        Some(read_entry::<(usize, Rate)>(row)?.1)
     }
 }
 
@@ -53,15 +49,15 @@ impl RowOf<usize, Period> for Periods {
     ghost has_row = { λ e. e.0 < 2 ^ 63 };
 
     fn is_row_of(&self, row: &Row, place: &usize, period: &Period) -> bool {
-        is_integer(*place) && is_row(row, &period_cells(*place, period))
+        is_integer(*place) && is_entry(row, &(*place, *period))
     }
 }
 
 impl ReadsAs<Period> for Periods {
-    ghost is_in = { λ period row. IsPeriod period × IsPeriodRow row period };
+    ghost is_in = { λ period row. IsPeriod period × (place : ℕ) × (row ≡ period_row (place, period)) };
 
     fn read(&self, row: &Row) -> Option<Period> {
-        read_period(row)
+        Some(read_entry::<(usize, Period)>(row)?.1)
     }
 }
 
@@ -75,15 +71,15 @@ impl RowOf<usize, CommissionTax> for CommissionTaxes {
     ghost has_row = { λ e. e.0 < 2 ^ 63 };
 
     fn is_row_of(&self, row: &Row, place: &usize, tax: &CommissionTax) -> bool {
-        is_integer(*place) && is_row(row, &commission_tax_cells(*place, tax))
+        is_integer(*place) && is_entry(row, &(*place, *tax))
     }
 }
 
 impl ReadsAs<CommissionTax> for CommissionTaxes {
-    ghost is_in = { λ tax row. IsCommissionTax tax × IsCommissionTaxRow row tax };
+    ghost is_in = { λ tax row. IsCommissionTax tax × (place : ℕ) × (row ≡ commission_tax_row (place, tax)) };
 
     fn read(&self, row: &Row) -> Option<CommissionTax> {
-        read_commission_tax(row)
+        Some(read_entry::<(usize, CommissionTax)>(row)?.1)
     }
 }
 
@@ -93,7 +89,8 @@ pub(crate) fn are_meta(rows: &[Row], plan: &Plan) -> bool
     ensures whole { length plan.now.closed < 2 ^ 63 → rows.now ≡ meta_rows (Some (record { day = plan.now.day; closed = length plan.now.closed })) → IsTrue result }
 {
     let closed = plan.closed_count();
-    is_integer(closed) && is_only_row(rows, &meta_cells(plan.day(), closed))
+    let day = plan.day();
+    is_integer(closed) && is_only_entry(rows, &Meta { day, closed })
 }
 
 /// Whether the rows are those of the plan's terms.
@@ -101,7 +98,7 @@ pub(crate) fn are_terms(rows: &[Row], plan: &Plan) -> bool
     ensures { IsTrue result ↔ (rows.now ≡ terms_rows plan.now.terms) }
 {
     match plan.terms() {
-        Some(terms) => is_only_row(rows, &terms_cells(&terms)),
+        Some(terms) => is_only_entry(rows, &terms),
         None => rows.is_empty(),
     }
 }

@@ -15,24 +15,23 @@ use crate::airlines::published_in;
 use crate::plan::{CommissionTaxes, Periods, Rates};
 use crate::plan_rows::{PlanRows, read_all};
 use bsp_memory_rows::{NoRoom, Tables};
-use bsp_rows::{AirlineCode, Day, PlanText, Terms};
-use bsp_store_base::AirlineEntry;
-use bsp_store_rows::{read_meta, read_period, read_terms};
+use bsp_rows::{AirlineCode, Period, PlanText, Terms};
+use bsp_store_columns::{AirlineEntry, Meta as MetaRow, read_entry};
 use sqlite::Row;
 use std::alloc::{AllocError, Global};
 
 /// The business day and the count of closed periods of the first row.
-fn meta_in(rows: &[Row]) -> Option<(Day, u64)>
-    ensures { (meta : Meta) → IsMeta meta → rows.now ≡ meta_rows (Some meta) → result ≡ Some (meta.day, meta.closed) }
+fn meta_in(rows: &[Row]) -> Option<MetaRow>
+    ensures { (meta : Meta) → IsMeta meta → rows.now ≡ meta_rows (Some meta) → result ≡ Some meta }
 {
-    read_meta(rows.first()?)
+    read_entry(rows.first()?)
 }
 
 /// The terms of the first row.
 fn terms_in(rows: &[Row]) -> Option<Terms>
     ensures { (terms : TermsEntry) → AreTerms terms → rows.now ≡ terms_rows (Some terms) → result ≡ Some terms }
 {
-    read_terms(rows.first()?)
+    read_entry(rows.first()?)
 }
 
 /// The plan's text that rows of terms say, with the airlines, rates, periods and taxes on commission; none where there
@@ -94,7 +93,7 @@ fn close_period(tables: &mut Tables, row: &Row) -> Result<bool, NoRoom>
     ensures changes { OnOk result (ChangesPlan tables.old tables.new) }
     ensures entry { IfOk result (λ done. (e : ℕ × PeriodEntry) → MayClose IsPeriod e (rows_of tables.old) → row.now ≡ period_row e → (done ≡ true) × (rows_of tables.new ≡ closing e (rows_of tables.old))) }
 {
-    let Some(period) = read_period(row) else {
+    let Some((_place, period)) = read_entry::<(usize, Period)>(row) else {
         return Ok(false);
     };
     Ok(tables.close(period.code)?.is_ok())
@@ -119,18 +118,17 @@ fn move_on(tables: &mut Tables, rows: &PlanRows) -> Result<bool, NoRoom>
     ensures plan { IfOk result (λ done. (p : Published) (tokens : FinMap nat_cmp (List ℕ)) → IsSoundPlan p → IsFormedPlan p tokens → AreRowsOfPlan p tokens rows.now → IsReached (rows_of tables.old).published (SetDay p.day ∷ map (λ code. Close code) p.closed) p
         → (done ≡ true) × (rows_of tables.new ≡ record (rows_of tables.old) { published = p })) }
 {
-    let Some((day, closed)) = meta_in(&rows.meta) else {
+    let Some(meta) = meta_in(&rows.meta) else {
         return Ok(false);
     };
-    let closed = closed as usize;
     let periods = rows.periods.as_slice();
-    if closed > periods.len() {
+    if meta.closed > periods.len() {
         return Ok(false);
     }
-    if tables.set_day(day)?.is_err() {
+    if tables.set_day(meta.day)?.is_err() {
         return Ok(false);
     }
-    close_periods(tables, &periods[..closed])
+    close_periods(tables, &periods[..meta.closed])
 }
 
 /// Makes the plan that rows say, and answers false where there is none.

@@ -10,12 +10,12 @@ ghost use Rattle.bsp_store_load.specs.Adding.{entry_added};
 ghost use Rattle.bsp_store_load.specs.Beside.{IsSecond};
 
 use crate::entries::put_new;
-use crate::equal::has_values;
 use crate::load::StoredTable;
 use bsp_memory_rows::NoRoom;
 use bsp_memory_tables::ItemTable;
 use bsp_rows::{Item, ItemKey, ReportedDocument};
-use bsp_store_base::{KeyedTable, SecondRow, Seconds, TicketKey, read_second, second_related};
+use bsp_store_base::{KeyedTable, Seconds};
+use bsp_store_columns::{TicketKey, read_entry, second_related};
 use sqlite::Row;
 use std::collections::BTreeMap;
 
@@ -54,12 +54,9 @@ impl StoredTable<TicketKey, ReportedDocument, BTreeMap<TicketKey, ReportedDocume
         seconds: &mut BTreeMap<TicketKey, ReportedDocument>,
         row: &Row,
     ) -> Result<bool, NoRoom> {
-        let Some((key, document)) = read_second(row) else {
+        let Some((key, document)) = read_entry::<(TicketKey, ReportedDocument)>(row) else {
             return Ok(false);
         };
-        if !has_values(row, &SecondRow::of(&key, &document).values()) {
-            return Ok(false);
-        }
         Ok(put_new(seconds, key, document)?)
     }
 }

@@ -7,13 +7,11 @@ ghost use Rattle.bsp_store_load.specs.Contents.{used_tallies};
 ghost use Rattle.bsp_memory_tables.specs.TallyTables.{tally_rows};
 ghost use Rattle.bsp_memory_rows.specs.Lookups.{has_rows};
 
-use crate::equal::{has_values, is_row};
+use crate::equal::is_entry;
 use crate::listed::{RowOf, are_rows_of};
 use bsp_maps::Rule;
 use bsp_memory_tables::TallyTable;
 use bsp_rows::{Tally, TallyKey};
-use bsp_store_base::TallyTaxRow;
-use bsp_store_rows::tally_cells;
 use sqlite::Row;
 
 /// Tallies.
@@ -24,7 +22,7 @@ impl RowOf<TallyKey, Tally> for StoredTallies {
     ghost row_of = { tally_row };
 
     fn is_row_of(&self, row: &Row, key: &TallyKey, tally: &Tally) -> bool {
-        is_row(row, &tally_cells(key, tally))
+        is_entry(row, &(*key, *tally))
     }
 }
 
@@ -36,7 +34,7 @@ impl RowOf<TallyKey, Tally> for StoredTallyTaxes {
     ghost row_of = { tally_tax_row };
 
     fn is_row_of(&self, row: &Row, key: &TallyKey, tally: &Tally) -> bool {
-        has_values(row, &TallyTaxRow::of(key, tally).values())
+        is_entry(row, &(*key, tally.tax))
     }
 }
 

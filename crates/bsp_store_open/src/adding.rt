@@ -3,7 +3,7 @@
 ghost use Rattle.bsp_store_open.specs.Filled.{IsFilling};
 
 use crate::old_versions::OldVersion;
-use bsp_store_base::table;
+use bsp_store_columns::table;
 use sqlite::{Alter, Connection, Error};
 
 /// The texts that make the tables of taxes, with a tax of 0 for each item and each tally: from the tables of version 1 to

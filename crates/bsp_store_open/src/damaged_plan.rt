@@ -1,58 +1,32 @@
 //! What damages the rows of the plan.
 
-ghost use Rattle.std.specs.Prelude.{◌<◌, ◌^◌, ◌↔◌, IsTrue};
-
 use crate::damage::Damage;
 use crate::fault::OpenFault;
 use crate::named::{AIRLINE, COMMISSION_TAX, META, PERIOD, RATE, TERMS, Table};
 use crate::search_end::{End, end_at_row};
 use bsp_memory_rows::Tables;
-use bsp_store_load::{PlanRows, is_row, plan_tables};
-use bsp_store_rows::{
-    airline_cells, commission_tax_cells, meta_cells, period_cells, rate_cells, read_airline,
-    read_commission_tax, read_meta, read_period, read_rate, read_terms, terms_cells,
-};
+use bsp_rows::{AirlineCode, CommissionTax, Period, Rate, Terms};
+use bsp_store_columns::{AirlineEntry, Meta, ReadEntry, read_entry};
+use bsp_store_load::{PlanRows, plan_tables};
 use sqlite::Row;
 use std::alloc::{AllocError, Global};
 use std::collections::BTreeSet;
 
-/// Whether a place or a count fits the integers of a store.
-fn is_integer(count: usize) -> bool
-    ensures { IsTrue result ↔ (count < 2 ^ 63) }
-{
-    (count as u64) < 1 << 63
-}
-
-fn is_meta(row: &Row, _place: usize) -> bool {
-    matches!(read_meta(row), Some((day, closed)) if is_integer(closed as usize)
-        && is_row(row, &meta_cells(day, closed as usize)))
-}
-
-fn is_terms(row: &Row, _place: usize) -> bool {
-    matches!(read_terms(row), Some(terms) if is_row(row, &terms_cells(&terms)))
-}
-
-fn is_airline(row: &Row, _place: usize) -> bool {
-    match read_airline(row) {
-        Some((code, airline)) => airline.has_stored_place()
-            && is_row(row, &airline_cells(code, &airline)),
-        None => false,
-    }
+/// Whether a row of a table without places is that of an entry.
+fn is_entry<E: ReadEntry + Drop>(row: &Row, _place: usize) -> bool {
+    read_entry::<E>(row).is_some()
 }
 
 fn is_rate(row: &Row, place: usize) -> bool {
-    matches!(read_rate(row), Some(rate) if is_integer(place)
-        && is_row(row, &rate_cells(place, &rate)))
+    matches!(read_entry::<(usize, Rate)>(row), Some((own, _)) if own == place)
 }
 
 fn is_period(row: &Row, place: usize) -> bool {
-    matches!(read_period(row), Some(period) if is_integer(place)
-        && is_row(row, &period_cells(place, &period)))
+    matches!(read_entry::<(usize, Period)>(row), Some((own, _)) if own == place)
 }
 
 fn is_commission_tax(row: &Row, place: usize) -> bool {
-    matches!(read_commission_tax(row), Some(tax) if is_integer(place)
-        && is_row(row, &commission_tax_cells(place, &tax)))
+    matches!(read_entry::<(usize, CommissionTax)>(row), Some((own, _)) if own == place)
 }
 
 /// The first row of a table that no office writes in its place: it reads as no entry, or is not the row of that entry.
@@ -75,7 +49,7 @@ fn first_of<F: Fn(&Row, usize) -> bool>(
 
 /// The place of an airline's row, if it has one.
 fn place_of(row: &Row) -> Option<usize> {
-    match read_airline(row) {
+    match read_entry::<(AirlineCode, AirlineEntry)>(row) {
         Some((_, airline)) => airline.place,
         None => None,
     }
@@ -110,9 +84,13 @@ fn first_misplaced(alloc: Global, rows: &[Row]) -> Result<Option<&Row>, AllocErr
 
 /// The first row of the plan's tables, table by table, that no office writes by itself.
 fn first_unwritten(rows: &PlanRows) -> Option<(Table, &Row)> {
-    first_of(META, &rows.meta, is_meta)
-        .or(first_of(TERMS, &rows.terms, is_terms))
-        .or(first_of(AIRLINE, &rows.airlines, is_airline))
+    first_of(META, &rows.meta, is_entry::<Meta>)
+        .or(first_of(TERMS, &rows.terms, is_entry::<Terms>))
+        .or(first_of(
+            AIRLINE,
+            &rows.airlines,
+            is_entry::<(AirlineCode, AirlineEntry)>,
+        ))
         .or(first_of(RATE, &rows.rates, is_rate))
         .or(first_of(PERIOD, &rows.periods, is_period))
         .or(first_of(COMMISSION_TAX, &rows.commission_taxes, is_commission_tax))

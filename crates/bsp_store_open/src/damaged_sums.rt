@@ -5,18 +5,17 @@ use crate::named::Table;
 use crate::search_end::{End, end_at_row};
 use bsp_memory_tables::TallyTable;
 use bsp_rows::{Tally, TallyKey};
-use bsp_store_base::TallyTaxRow;
-use bsp_store_load::{has_values, is_row};
-use bsp_store_rows::{read_tally_key, tally_cells};
+use bsp_store_columns::read_tally_key;
+use bsp_store_load::is_entry;
 use sqlite::Row;
 use std::alloc::Global;
 
 pub(crate) fn is_tally(row: &Row, key: &TallyKey, tally: &Tally) -> bool {
-    is_row(row, &tally_cells(key, tally))
+    is_entry(row, &(*key, *tally))
 }
 
 pub(crate) fn is_tally_tax(row: &Row, key: &TallyKey, tally: &Tally) -> bool {
-    has_values(row, &TallyTaxRow::of(key, tally).values())
+    is_entry(row, &(*key, tally.tax))
 }
 
 /// Whether a row is that of the tally that has its key.

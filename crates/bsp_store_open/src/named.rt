@@ -1,6 +1,6 @@
 //! The tables of a book, by their names.
 
-use bsp_store_base::table;
+use bsp_store_columns::table;
 
 /// A table of a book.
 #[derive(Clone, Copy)]

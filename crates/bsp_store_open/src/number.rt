@@ -12,7 +12,7 @@ ghost use Rattle.bsp_store_open.specs.Migrating.{HasNoOldBook, HasNumber, IsEarl
 use crate::fault::OpenFault;
 use crate::old_versions::OldVersion;
 use crate::version::is_known;
-use bsp_store_base::table;
+use bsp_store_columns::table;
 use bsp_store_load::read_version;
 use sqlite::{Alter, Connection, Row};
 

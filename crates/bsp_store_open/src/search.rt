@@ -16,7 +16,7 @@ use crate::tables::load_rows;
 use crate::version::{is_known, version_in};
 use bsp_memory_rows::Tables;
 use bsp_rows::{ItemKey, ReportedDocument, Unsound};
-use bsp_store_base::TicketKey;
+use bsp_store_columns::TicketKey;
 use bsp_store_load::{
     Agents, Ranges, StoredItems, StoredMemos, StoredSeconds, StoredTable, StoredTaxes, TaxedTables,
     WholeTable,

@@ -2,5 +2,3 @@ pub mod Orders
 pub mod MetaTable
 pub mod PlacedTables
 pub mod Tables
-pub mod CallerBack
-pub mod Words

@@ -26,18 +26,18 @@ module _ {K V : Type 0} {R : K → K → Ordering} (t : MapTable K V R) where
   meant l rise s delete insert update query unlisted lists sees = record { delete = delete; insert = insert; update = update; query = shows_all t l lists sees rise _ query unlisted }
 
 pub agents_rise : Rise agents_map
-agents_rise = rises agents_map IsAgentEntry (λ c formed. formed.agents) (λ a b f g less. one_order _ _ (code_order 8 a.0 b.0 f.agent.has_digits g.agent.has_digits) ∙ less)
+agents_rise = rises agents_map IsAgentEntry (λ c formed. formed.agents) (λ a b f g less. one_order _ _ (code_order 8 a.0 b.0 f.0.has_digits g.0.has_digits) ∙ less)
 
 pub airlines_rise : Rise airlines_map
-airlines_rise = rises airlines_map IsAirlineEntry (λ c formed. formed.airlines) (λ a b f g less. one_order _ _ (code_order 3 a.0 b.0 f.airline.has_digits g.airline.has_digits) ∙ less)
+airlines_rise = rises airlines_map IsAirlineEntry (λ c formed. formed.airlines) (λ a b f g less. one_order _ _ (code_order 3 a.0 b.0 f.0 g.0) ∙ less)
 
 pub ranges_rise : Rise ranges_map
 ranges_rise = rises ranges_map IsRangeEntry (λ c formed. formed.ranges)
-    (λ a b f g less. two_orders _ _ _ _ (code_order 8 a.0.agent b.0.agent f.agent.has_digits g.agent.has_digits) (code_order 10 a.0.first b.0.first f.first g.first) ∙ less)
+    (λ a b f g less. two_orders _ _ _ _ (code_order 8 a.0.agent b.0.agent f.0.has_digits g.0.has_digits) (code_order 10 a.0.first b.0.first f.1 g.1) ∙ less)
 
 pub memos_rise : Rise memos_map
 memos_rise = rises memos_map IsMemoEntry (λ c formed. formed.memos)
-    (λ a b f g less. two_orders _ _ _ _ (code_order 3 a.0.airline b.0.airline f.airline.has_digits g.airline.has_digits) (code_order 10 a.0.document b.0.document f.document g.document) ∙ less)
+    (λ a b f g less. two_orders _ _ _ _ (code_order 3 a.0.airline b.0.airline f.0 g.0) (code_order 10 a.0.document b.0.document f.1 g.1) ∙ less)
 
 pub tallies_rise : Rise tallies_map
 tallies_rise = rises tallies_map (λ e. IsTallyKey e.0) (λ c formed. formed.tallies)

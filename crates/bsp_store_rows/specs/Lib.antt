@@ -1,5 +1,2 @@
-pub mod Reading
-pub mod Cells
 pub mod Tables
 pub mod PlacedTables
-pub mod CallerReading

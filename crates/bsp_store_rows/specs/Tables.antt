@@ -2,7 +2,7 @@
 use Rattle.std.proofs.Common.{ℕ, List, [], ◌∷◌, nat_cmp}
 use Rattle.bsp_store_base.specs.Entries.{CommissionTax, memo_cmp, MemoFields, MemoKey, Period, range_cmp, RangeKey, Rate, Tally, tally_cmp, TallyKey}
 use Rattle.bsp_store_base.specs.Base.{agent_row, agent_table, agent_text, airline_row, airline_table, airline_text, commission_tax_row, commission_tax_table, MapTable, memo_row, memo_table, number_text, period_row, period_table, period_text, rate_row, rate_table, stock_row, stock_table, tally_row, tally_table}
-use Rattle.bsp_store_base.specs.declared.airlines.AirlineEntry.{AirlineEntry}
+use Rattle.bsp_store_columns.specs.declared.airlines.AirlineEntry.{AirlineEntry}
 use Rattle.bsp_store_rows.specs.PlacedTables.{PlacedList}
 
 abbrev pub agents_map : MapTable ℕ (List ℕ) nat_cmp

@@ -2,46 +2,12 @@
 
 ghost use Rattle.std.specs.Prelude.{◌≡◌};
 ghost use Rattle.std.specs.Option.{ForSome};
-ghost use Rattle.bsp_store_base.specs.Sqlite.{or_null, Text};
-ghost use Rattle.bsp_store_base.specs.Base.{airline_row, count, HasStoredPlace};
-ghost use Rattle.bsp_store_rows.specs.Cells.{cell, written};
+ghost use Rattle.bsp_store_base.specs.Base.{HasStoredPlace};
 
-use crate::cells::{Cell, run};
-use bsp_rows::{AirlineCode, Token};
-use bsp_store_base::{AirlineEntry, KeyedTable, Statements, airline_digits, table};
-use sqlite::{Alter, Connection, Error};
+use bsp_rows::AirlineCode;
+use bsp_store_base::{KeyedTable, Statements};
+use bsp_store_columns::{AirlineEntry, Cell, airline_digits, table};
 use std::marker::Model;
-
-fn place_cell(airline: &AirlineEntry) -> Cell
-    requires { HasStoredPlace airline.now }
-    ensures { cell result ≡ or_null count airline.now.place }
-{
-    match airline.place {
-        Some(place) => Cell::Int(place as i64),
-        None => Cell::Null,
-    }
-}
-
-fn token_cell(token: Option<Token>) -> Cell
-    ensures { cell result ≡ or_null Text token }
-{
-    match token {
-        Some(token) => Cell::Token(token),
-        None => Cell::Null,
-    }
-}
-
-/// The row of an airline.
-pub fn airline_cells(code: AirlineCode, airline: &AirlineEntry) -> [Cell; 3]
-    requires { HasStoredPlace airline.now }
-    ensures { written result ≡ airline_row (code, airline.now) }
-{
-    [
-        Cell::Three(airline_digits(code)),
-        place_cell(airline),
-        token_cell(airline.token),
-    ]
-}
 
 /// An airline whose place, if it has one, fits the integers of a store.
 #[derive(Clone, Copy)]
@@ -50,8 +16,8 @@ pub struct StoredAirline {
 }
 
 impl Model for StoredAirline {
-    ghost use Rattle.bsp_store_base.specs.Airlines.{HasStoredPlace};
-    ghost use Rattle.bsp_store_base.specs.declared.airlines.AirlineEntry.{AirlineEntry as Entry};
+    ghost use Rattle.bsp_store_columns.specs.Airlines.{HasStoredPlace};
+    ghost use Rattle.bsp_store_columns.specs.declared.airlines.AirlineEntry.{AirlineEntry as Entry};
 
     ghost Value = { Entry };
 
@@ -89,6 +55,10 @@ impl KeyedTable<AirlineCode, StoredAirline> for Airlines {
     ghost use Rattle.std.specs.Ordering.{nat_cmp};
     ghost use Rattle.bsp_store_rows.specs.Tables.{airlines_map};
 
+    type KeyCells = [Cell; 1];
+
+    type Entry = (AirlineCode, AirlineEntry);
+
     ghost order = { nat_cmp };
 
     ghost table = { airlines_map };
@@ -103,22 +73,11 @@ impl KeyedTable<AirlineCode, StoredAirline> for Airlines {
         }
     }
 
-    fn run_on_key<S: Alter>(
-        &self,
-        conn: &mut Connection<S>,
-        text: &str,
-        code: &AirlineCode,
-    ) -> Result<usize, Error> {
-        run(conn, text, &[Cell::Three(airline_digits(*code))])
+    fn key_cells(&self, code: &AirlineCode) -> [Cell; 1] {
+        [Cell::Three(airline_digits(*code))]
     }
 
-    fn run_on_row<S: Alter>(
-        &self,
-        conn: &mut Connection<S>,
-        text: &str,
-        code: &AirlineCode,
-        airline: &StoredAirline,
-    ) -> Result<usize, Error> {
-        run(conn, text, &airline_cells(*code, &airline.entry()))
+    fn entry(&self, code: &AirlineCode, airline: &StoredAirline) -> (AirlineCode, AirlineEntry) {
+        (*code, airline.entry())
     }
 }

@@ -1,17 +1,13 @@
 //! The tables of one row: `meta`, of the version of the tables and the business day, and that of the terms.
 
-ghost use Rattle.std.specs.Prelude.{◌≡◌, is_some, ◌<◌, ◌^◌, None, Some, OnOk, OnErr, ⊤};
+ghost use Rattle.std.specs.Prelude.{◌≡◌, is_some, None, Some, OnOk, OnErr, ⊤};
 ghost use Rattle.bsp_store_base.specs.Sqlite.{HasCleanDisk, state, Survives};
-ghost use Rattle.bsp_store_base.specs.Base.{Changes, Content, form, GivesUp, Keeps, KeepsSound, meta_part, meta_row, ShowsTable, terms_part, terms_row};
-ghost use Rattle.bsp_store_rows.specs.Cells.{written};
+ghost use Rattle.bsp_store_base.specs.Base.{Changes, Content, form, GivesUp, Keeps, KeepsSound, meta_part, ShowsTable, terms_part};
 
-use crate::cells::{Cell, run, values_of};
 use bsp_rows::{Day, Terms};
-use bsp_store_base::table;
+use bsp_store_base::run_entry;
+use bsp_store_columns::{Entry, Meta, table, values_of};
 use sqlite::{Alter, Connection, Error, ErrorCode, Transaction};
-
-/// The version of the tables.
-pub const VERSION: i64 = 3;
 
 const ADD: &str = table!(meta, insert);
 
@@ -25,19 +21,6 @@ const ADD_TERMS: &str = table!(terms, insert);
 
 const ALL_TERMS: &str = table!(terms, all);
 
-/// The row of a day and a number of closed periods.
-pub fn meta_cells(day: Day, closed: usize) -> [Cell; 4]
-    requires { closed < 2 ^ 63 }
-    ensures { written result ≡ meta_row (record { day = day; closed = closed }) }
-{
-    [
-        Cell::Int(1),
-        Cell::Int(VERSION),
-        Cell::Int(day.number()),
-        Cell::Int(closed as i64),
-    ]
-}
-
 /// Adds the row of a book without closed periods, where the table has none. The transaction stays open, and nothing is
 /// committed.
 ///
@@ -49,7 +32,7 @@ pub fn add_first_meta<S: Alter>(tx: &mut Transaction<'_, S>, day: Day) -> Result
     ensures added { OnOk result (HasCleanDisk (state S.Store tx.new.conn.now) → (now : Content) → now.meta ≡ None → Keeps form now (state S.Store tx.old.conn.now).now → KeepsSound form (record now { meta = Some (record { day = day; closed = 0 }) }) (state S.Store tx.new.conn.now).now) }
     ensures survives { Survives (state S.Store tx.old.conn.now) (state S.Store tx.new.conn.now) (λ _. ⊥) }
 {
-    let cells = meta_cells(day, 0);
+    let cells = Meta { day, closed: 0 }.cells();
     tx.execute(ADD, &values_of(&cells)[..cells.len()])?;
     Ok(())
 }
@@ -73,7 +56,7 @@ pub fn put_meta<S: Alter>(
         return Err(Error::SqliteFailure(ErrorCode::TooBig));
     }
     let text = if is_there { SET } else { ADD };
-    run(conn, text, &meta_cells(day, closed))?;
+    run_entry(conn, text, &Meta { day, closed })?;
     Ok(())
 }
 
@@ -82,18 +65,6 @@ pub fn meta_query() -> &'static str
     ensures { ShowsTable meta_part result.now }
 {
     ALL
-}
-
-/// The row of these terms.
-pub fn terms_cells(terms: &Terms) -> [Cell; 4]
-    ensures { written result ≡ terms_row terms.now }
-{
-    [
-        Cell::Int(1),
-        Cell::Three(terms.currency.letters()),
-        Cell::Int(terms.review_days as i64),
-        Cell::Int(terms.documents_limit as i64),
-    ]
 }
 
 /// Writes the terms of the market, or that there are none.
@@ -109,7 +80,7 @@ pub fn put_terms<S: Alter>(conn: &mut Connection<S>, terms: Option<Terms>) -> Re
     let Some(terms) = terms else {
         return Ok(());
     };
-    run(conn, ADD_TERMS, &terms_cells(&terms))?;
+    run_entry(conn, ADD_TERMS, &terms)?;
     Ok(())
 }
 

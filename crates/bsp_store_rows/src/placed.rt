@@ -1,14 +1,14 @@
 //! Tables whose rows are the entries of a list, each with its place: what is new in the list is added. They are those of the
 //! plan: rates of commission, periods and taxes on commission.
 
-ghost use Rattle.std.specs.Prelude.{◌≡◌, ◌<◌, ◌^◌, length, OnErr, OnOk};
-ghost use Rattle.bsp_store_base.specs.Base.{Changes, commission_tax_row, GivesUpIf, period_row, rate_row};
-ghost use Rattle.bsp_store_rows.specs.Cells.{written};
+ghost use Rattle.std.specs.Prelude.{◌<◌, ◌^◌, length, OnErr, OnOk};
+ghost use Rattle.bsp_store_base.specs.Base.{Changes, GivesUpIf};
+ghost use Rattle.bsp_store_base.specs.MapTables.{HasRun};
 ghost use Rattle.bsp_store_rows.specs.PlacedTables.{has_first, with_all};
 
-use crate::cells::{Cell, run};
 use bsp_rows::{CommissionTax, Period, Rate};
-use bsp_store_base::{airline_digits, period_digits, table};
+use bsp_store_base::run_entry;
+use bsp_store_columns::{Entry, table};
 use sqlite::{Alter, Connection, Error};
 
 /// The statements that write and read the rows of a table.
@@ -22,9 +22,11 @@ pub struct PlacedStatements {
 
 /// A table whose rows are the entries of a list, each with its place.
 pub trait PlacedTable<A: Copy> {
-    ghost use Rattle.std.specs.Prelude.{◌<◌, ◌^◌};
-    ghost use Rattle.bsp_store_base.specs.MapTables.{HasRun};
+    ghost use Rattle.std.specs.Prelude.{◌<◌, ◌≡◌, ◌^◌};
     ghost use Rattle.bsp_store_rows.specs.PlacedTables.{ArePlacedStatements, IsPlacedList, PlacedList};
+
+    /// The entry that has a row.
+    type Entry: Entry + Drop;
 
     // its rows are the entries of a list of the content
     ghost list: { PlacedList A };
@@ -34,20 +36,11 @@ pub trait PlacedTable<A: Copy> {
         ensures meant { ArePlacedStatements list result }
         ensures lawful { IsPlacedList list };
 
-    /// Runs a statement whose parameters are the columns of the row of an entry at a place, counted from 1.
-    ///
-    /// # Errors
-    ///
-    /// Those of the store.
-    fn run_on_row<S: Alter>(
-        &self,
-        conn: &mut Connection<S>,
-        text: &str,
-        place: usize,
-        entry: &A,
-    ) -> Result<usize, Error>
+    /// The entry of a value at a place, counted from 1.
+    fn entry(&self, place: usize, value: &A) -> Self::Entry
         requires { place < 2 ^ 63 }
-        ensures { HasRun S.Store text.now (list.row_of (place, entry.now)) conn.old conn.new result };
+        ensures row { Self.Entry.Entry.row result ≡ list.row_of (place, value.now) }
+        ensures fits { Self.Entry.Entry.fits result };
 }
 
 /// Writes the entries of a list from a place on, counted from 0. The table has those before it.
@@ -67,22 +60,24 @@ pub fn add_all<A: Copy, T: PlacedTable<A>, S: Alter>(
 {
     let statements = table.statements();
     for at in from..entries.len() {
-        table.run_on_row(conn, statements.insert, at + 1, &entries[at])?;
+        run_row(table, conn, statements.insert, at + 1, &entries[at])?;
     }
     Ok(())
 }
 
-/// The row of a rate at a place, counted from 1.
-pub fn rate_cells(place: usize, rate: &Rate) -> [Cell; 4]
+/// Runs a statement whose parameters are the columns of the row of a value at a place.
+fn run_row<A: Copy, T: PlacedTable<A>, S: Alter>(
+    table: &T,
+    conn: &mut Connection<S>,
+    text: &str,
+    place: usize,
+    value: &A,
+) -> Result<usize, Error>
     requires { place < 2 ^ 63 }
-    ensures { written result ≡ rate_row (place, rate.now) }
+    ensures { HasRun S.Store text.now (T.list.row_of (place, value.now)) conn.old conn.new result }
 {
-    [
-        Cell::Three(airline_digits(rate.airline)),
-        Cell::Int(rate.from.number()),
-        Cell::Int(place as i64),
-        Cell::Int(rate.hundredths as i64),
-    ]
+    let entry = table.entry(place, value);
+    run_entry(conn, text, &entry)
 }
 
 /// The table of the commission rates.
@@ -90,6 +85,8 @@ pub struct Rates;
 
 impl PlacedTable<Rate> for Rates {
     ghost use Rattle.bsp_store_rows.specs.Tables.{rates_list};
+
+    type Entry = (usize, Rate);
 
     ghost list = { rates_list };
 
@@ -101,29 +98,9 @@ impl PlacedTable<Rate> for Rates {
         }
     }
 
-    fn run_on_row<S: Alter>(
-        &self,
-        conn: &mut Connection<S>,
-        text: &str,
-        place: usize,
-        rate: &Rate,
-    ) -> Result<usize, Error> {
-        run(conn, text, &rate_cells(place, rate))
+    fn entry(&self, place: usize, rate: &Rate) -> (usize, Rate) {
+        (place, *rate)
     }
-}
-
-/// The row of a period at a place, counted from 1.
-pub fn period_cells(place: usize, period: &Period) -> [Cell; 5]
-    requires { place < 2 ^ 63 }
-    ensures { written result ≡ period_row (place, period.now) }
-{
-    [
-        Cell::Five(period_digits(period.code)),
-        Cell::Int(place as i64),
-        Cell::Int(period.first.number()),
-        Cell::Int(period.last.number()),
-        Cell::Int(period.remittance.number()),
-    ]
 }
 
 /// The table of the periods.
@@ -131,6 +108,8 @@ pub struct Periods;
 
 impl PlacedTable<Period> for Periods {
     ghost use Rattle.bsp_store_rows.specs.Tables.{periods_list};
+
+    type Entry = (usize, Period);
 
     ghost list = { periods_list };
 
@@ -142,27 +121,9 @@ impl PlacedTable<Period> for Periods {
         }
     }
 
-    fn run_on_row<S: Alter>(
-        &self,
-        conn: &mut Connection<S>,
-        text: &str,
-        place: usize,
-        period: &Period,
-    ) -> Result<usize, Error> {
-        run(conn, text, &period_cells(place, period))
+    fn entry(&self, place: usize, period: &Period) -> (usize, Period) {
+        (place, *period)
     }
-}
-
-/// The row of a tax at a place, counted from 1.
-pub fn commission_tax_cells(place: usize, tax: &CommissionTax) -> [Cell; 3]
-    requires { place < 2 ^ 63 }
-    ensures { written result ≡ commission_tax_row (place, tax.now) }
-{
-    [
-        Cell::Int(tax.from.number()),
-        Cell::Int(place as i64),
-        Cell::Int(tax.hundredths as i64),
-    ]
 }
 
 /// The table of the taxes on commission.
@@ -170,6 +131,8 @@ pub struct CommissionTaxes;
 
 impl PlacedTable<CommissionTax> for CommissionTaxes {
     ghost use Rattle.bsp_store_rows.specs.Tables.{commission_taxes_list};
+
+    type Entry = (usize, CommissionTax);
 
     ghost list = { commission_taxes_list };
 
@@ -181,13 +144,7 @@ impl PlacedTable<CommissionTax> for CommissionTaxes {
         }
     }
 
-    fn run_on_row<S: Alter>(
-        &self,
-        conn: &mut Connection<S>,
-        text: &str,
-        place: usize,
-        tax: &CommissionTax,
-    ) -> Result<usize, Error> {
-        run(conn, text, &commission_tax_cells(place, tax))
+    fn entry(&self, place: usize, tax: &CommissionTax) -> (usize, CommissionTax) {
+        (place, *tax)
     }
 }

@@ -3,7 +3,7 @@ use Rattle.bsp_store_base.proofs.Std.{◌≡◌, ap, Bool, cond, false, get, is_
 use Rattle.bsp_store_base.proofs.Sqlite.{Ghosts, Held}
 use Rattle.bsp_store_base.proofs.Entries.{Item, ItemKey, ReportedDocument}
 use Rattle.bsp_store_base.proofs.Base.{Changes, Content, second_in, ticket, ticket_of, with_second, with_value}
-use Rattle.bsp_store_base.specs.declared.tickets.TicketKey.{TicketKey}
+use Rattle.bsp_store_columns.specs.declared.tickets.TicketKey.{TicketKey}
 use Rattle.bsp_store_save.specs.Seconds.{has_second}
 
 -- the content with this at a ticket

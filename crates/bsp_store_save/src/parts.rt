@@ -9,7 +9,8 @@ ghost use Rattle.bsp_store_save.specs.Each.{has_row};
 
 use crate::keyed::Keyed;
 use bsp_rows::{AirlineCode, DocNumber, RangeKey, Tally, TallyKey, Token};
-use bsp_store_base::{AirlineEntry, KeyedTable, place_of, put};
+use bsp_store_base::{KeyedTable, put};
+use bsp_store_columns::{AirlineEntry, place_of};
 use bsp_store_rows::{Airlines, Ranges, StoredAirline};
 use sqlite::{Alter, Connection, Error};
 

@@ -6,7 +6,8 @@ ghost use Rattle.bsp_store_save.specs.Seconds.{gives_second, has_second};
 
 use crate::keyed::Keyed;
 use bsp_rows::{Item, ItemKey, ReportedDocument};
-use bsp_store_base::{Seconds, TicketKey, put, second_related};
+use bsp_store_base::{Seconds, put};
+use bsp_store_columns::{TicketKey, second_related};
 use sqlite::{Alter, Connection, Error};
 
 /// The second related documents of items. A CANX has none.

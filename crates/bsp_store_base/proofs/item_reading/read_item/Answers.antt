@@ -1,7 +1,7 @@
 use Rattle.std.proofs.Common.{ap, ◌∙◌}
 use Rattle.sqlite_value.specs.Order.{column}
 use Rattle.bsp_store_base.specs.ItemReading.{item_in}
-use Rattle.bsp_store_base.proofs.Days.{same_day}
+use Rattle.bsp_store_columns.proofs.Days.{same_day}
 use Rattle.bsp_store_base.proofs.item_reading.read_item.Goals as goal
 
 pub returns-clause-day : goal.returns-clause-day

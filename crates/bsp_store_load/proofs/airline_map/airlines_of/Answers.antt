@@ -1,5 +1,5 @@
 use Rattle.std.proofs.Common.{refl}
-use Rattle.bsp_store_base.specs.Airlines.{airline_entries}
+use Rattle.bsp_store_columns.specs.Airlines.{airline_entries}
 use Rattle.bsp_store_load.proofs.airline_map.airlines_of.Goals as goal
 
 pub returns : goal.returns

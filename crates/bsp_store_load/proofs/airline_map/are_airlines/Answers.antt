@@ -1,7 +1,7 @@
 use Rattle.bsp_store_base.proofs.Std.{◌∙◌, ◌≡◌, AllByRecursion, ap, entries, filter, FinMap, from_entries, IsStrictlySortedBy, keys_of, List, map, nat_cmp, nat_cmp_total, subst, sym, true, ℕ}
 use Rattle.bsp_store_base.proofs.Entries.{all_pass, in_order}
 use Rattle.bsp_store_base.proofs.Base.{airline_row, HasStoredPlace}
-use Rattle.bsp_store_base.specs.declared.airlines.AirlineEntry.{AirlineEntry}
+use Rattle.bsp_store_columns.specs.declared.airlines.AirlineEntry.{AirlineEntry}
 use Rattle.bsp_store_load.proofs.airline_map.are_airlines.Goals as goal
 
 -- the entries of a map in memory are those of the map that it is

@@ -2,7 +2,7 @@ use Rattle.bsp_store_base.proofs.Std.{◌∙◌, ◌≡◌, ap, deref_pair, empt
 use Rattle.sqlite_trees.proofs.ListLemmas.{map-map}
 use Rattle.bsp_store_base.proofs.Entries.{in_order, written}
 use Rattle.bsp_store_base.proofs.Base.{registered, unplaced}
-use Rattle.bsp_store_base.specs.declared.airlines.AirlineEntry.{AirlineEntry}
+use Rattle.bsp_store_columns.specs.declared.airlines.AirlineEntry.{AirlineEntry}
 use Rattle.bsp_store_load.proofs.PutLemmas.{inserted, inserted_all}
 use Rattle.bsp_store_load.proofs.airline_map.registered.Goals as goal
 

@@ -1,5 +1,5 @@
 use Rattle.bsp_store_base.proofs.Std.{◌≡◌, empty, from_entries, map, nat_cmp}
-use Rattle.bsp_store_base.specs.Airlines.{unplaced}
+use Rattle.bsp_store_columns.specs.Airlines.{unplaced}
 use Rattle.bsp_store_load.proofs.PutLemmas.{inserted}
 use Rattle.bsp_store_load.proofs.airline_map.registered.Given as goal
 

@@ -1,6 +1,6 @@
 use Rattle.bsp_store_base.proofs.Std.{◌∙◌, ap, empty, from_entries, nat_cmp, sym, take, take_all}
 use Rattle.bsp_maps.proofs.PickLemmas.{if_ok}
-use Rattle.bsp_store_base.proofs.Placing.{one_more}
+use Rattle.bsp_store_columns.proofs.Placing.{one_more}
 use Rattle.bsp_store_load.specs.Stored.{gathered, placed_code, with_pair}
 use Rattle.bsp_store_load.proofs.AirlineReads.{codes_in_order}
 use Rattle.bsp_store_load.proofs.Gathering.{gathered_last}

@@ -24,14 +24,15 @@ first_all P (suc n) before [] all = tt
 first_all P (suc n) before (q ∷ qs) all = (all.0, first_all P n (before + 1) qs all.1)
 
 module _ (p : Published) (tokens : FinMap nat_cmp (List ℕ)) (s : IsSoundPlan p) (formed : IsFormedPlan p tokens) (stored : PlanRows) (are : AreRowsOfPlan p tokens stored) where
-  meta_read : (rows : List Row) (o : Option (CivilDay × ℕ)) → rows ≡ stored.meta.items → ((meta : Meta) → IsMeta meta → rows ≡ meta_rows (Some meta) → o ≡ Some (meta.day, meta.closed)) → o ≡ Some (p.day, length p.closed)
-  meta_read rows o same reads = reads (record { day = p.day; closed = length p.closed }) (record { has_day = formed.day; has_closed = formed.closed }) (same ∙ are.meta)
+  meta_read : (rows : List Row) (o : Option Meta) → rows ≡ stored.meta.items → ((meta : Meta) → IsMeta meta → rows ≡ meta_rows (Some meta) → o ≡ Some meta) → o ≡ Some (record { day = p.day; closed = length p.closed })
+  meta_read rows o same reads = reads (record { day = p.day; closed = length p.closed }) (formed.day, formed.closed) (same ∙ are.meta)
 
-  meta_is : (rows : List Row) (o : Option (CivilDay × ℕ)) (day : CivilDay) (closed : ℕ) → rows ≡ stored.meta.items → ((meta : Meta) → IsMeta meta → rows ≡ meta_rows (Some meta) → o ≡ Some (meta.day, meta.closed)) → o ≡ Some (day, closed)
+  meta_is : (rows : List Row) (o : Option Meta) (day : CivilDay) (closed : ℕ) → rows ≡ stored.meta.items → ((meta : Meta) → IsMeta meta → rows ≡ meta_rows (Some meta) → o ≡ Some meta) → o ≡ Some (record { day = day; closed = closed })
       → (day ≡ p.day) × (closed ≡ length p.closed)
   meta_is rows o day closed same reads is =
-      let both : (day, closed) ≡ (p.day, length p.closed) = same_Some (day, closed) (p.day, length p.closed) (sym is ∙ meta_read rows o same reads) in
-      (ap (λ (m : CivilDay × ℕ). m.0) both, ap (λ (m : CivilDay × ℕ). m.1) both)
+      let given : Meta = record { day = day; closed = closed } in
+      let both : given ≡ record { day = p.day; closed = length p.closed } = same_Some given _ (sym is ∙ meta_read rows o same reads) in
+      (ap (λ (m : Meta). m.day) both, ap (λ (m : Meta). m.closed) both)
 
   few_closed : length p.closed ≤ length stored.periods.items
   few_closed =
@@ -65,27 +66,27 @@ returns-in_default-clause-plan c = λ p tokens s formed are reached.
     let some = meta_read p tokens s formed c.args.rows.now are c.deref.result.now c.meta_in.result c.deref.ensures.value c.meta_in.ensures in
     absurd (none-some _ (sym c.in_default.is ∙ some))
 
-pub returns-then-closed-periods-clause-plan : goal.returns-then-closed-periods-clause-plan
-returns-then-closed-periods-clause-plan c = λ p tokens s formed are reached.
-    let meta = meta_is p tokens s formed c.args.rows.now are c.deref.result.now c.meta_in.result c.in-Some.day c.in-Some.closed c.deref.ensures.value c.meta_in.ensures c.in-Some.is in
-    let past : length c.as_slice-periods.result.now < c.in-Some.closed = search rules in
+pub returns-then-meta-periods-clause-plan : goal.returns-then-meta-periods-clause-plan
+returns-then-meta-periods-clause-plan c = λ p tokens s formed are reached.
+    let meta = meta_is p tokens s formed c.args.rows.now are c.deref.result.now c.meta_in.result c.in-Some.meta.day c.in-Some.meta.closed c.deref.ensures.value c.meta_in.ensures c.in-Some.is in
+    let past : length c.as_slice-periods.result.now < c.in-Some.meta.closed = search rules in
     let few = few_closed p tokens s formed c.args.rows.now are in
     let long : length c.as_slice-periods.result.now ≡ length c.args.rows.now.periods.items = ap length c.as_slice-periods.ensures.value in
     absurd (omega (arith, meta.1))
 
 pub returns-then-is_err-clause-plan : goal.returns-then-is_err-clause-plan
 returns-then-is_err-clause-plan c = λ p tokens s formed are reached.
-    let meta = meta_is p tokens s formed c.args.rows.now are c.deref.result.now c.meta_in.result c.in-Some.day c.in-Some.closed c.deref.ensures.value c.meta_in.ensures c.in-Some.is in
-    let told : c.in_ok-set_day.field-0 ≡ request_answer (SetDay c.in-Some.day) (rows_of c.args.tables.now) = search rules in
-    let set : is_err c.in_ok-set_day.field-0 ≡ false = day_set p tokens s formed c.args.rows.now are (rows_of c.args.tables.now) reached c.in-Some.day c.in_ok-set_day.field-0 meta.0 told in
+    let meta = meta_is p tokens s formed c.args.rows.now are c.deref.result.now c.meta_in.result c.in-Some.meta.day c.in-Some.meta.closed c.deref.ensures.value c.meta_in.ensures c.in-Some.is in
+    let told : c.in_ok-set_day.field-0 ≡ request_answer (SetDay c.in-Some.meta.day) (rows_of c.args.tables.now) = search rules in
+    let set : is_err c.in_ok-set_day.field-0 ≡ false = day_set p tokens s formed c.args.rows.now are (rows_of c.args.tables.now) reached c.in-Some.meta.day c.in_ok-set_day.field-0 meta.0 told in
     absurd (both_ways _ (c.is_err.ensures.value ∙ set) c.if-is_err.true)
 
 pub returns-clause-plan : goal.returns-clause-plan
 returns-clause-plan c =
-    let set : rows_of c.set_day.new.self ≡ after_request (SetDay c.in-Some.day) (rows_of c.args.tables.now) = search rules in
+    let set : rows_of c.set_day.new.self ≡ after_request (SetDay c.in-Some.meta.day) (rows_of c.args.tables.now) = search rules in
     if_ok c.close_periods.result
     (λ done put p tokens s formed are reached.
-    let meta = meta_is p tokens s formed c.args.rows.now are c.deref.result.now c.meta_in.result c.in-Some.day c.in-Some.closed c.deref.ensures.value c.meta_in.ensures c.in-Some.is in
-    all_closed p tokens s formed c.args.rows.now are (rows_of c.args.tables.now) reached c.in-Some.day _ (rows_of c.set_day.new.self) (rows_of c.close_periods.new.tables) c.as_slice-periods.result.now done
+    let meta = meta_is p tokens s formed c.args.rows.now are c.deref.result.now c.meta_in.result c.in-Some.meta.day c.in-Some.meta.closed c.deref.ensures.value c.meta_in.ensures c.in-Some.is in
+    all_closed p tokens s formed c.args.rows.now are (rows_of c.args.tables.now) reached c.in-Some.meta.day _ (rows_of c.set_day.new.self) (rows_of c.close_periods.new.tables) c.as_slice-periods.result.now done
     meta.0 set c.as_slice-periods.ensures.value put (search (rules, meta.1)))
     c.close_periods.ensures.entries

@@ -5,7 +5,7 @@ use Rattle.bsp_rows.specs.Change.{Change}
 use Rattle.bsp_store_base.proofs.Entries.{after_request, change_or_fault, Close, closed_within, is_held, IsReached, IsSoundPlan, IsTextOf, made_again, opening, outcome, Period, plan_left, PlanFault, Publish, Published, request_answer, Rows, SetDay, Terms}
 use Rattle.bsp_rows.specs.PlanText.{PlanText}
 use Rattle.bsp_store_base.proofs.Base.{airline_entries, terms_rows}
-use Rattle.bsp_store_base.specs.declared.airlines.AirlineEntry.{AirlineEntry}
+use Rattle.bsp_store_columns.specs.declared.airlines.AirlineEntry.{AirlineEntry}
 use Rattle.bsp_store_load.specs.Stored.{AreRowsOfPlan, IsFormedPlan}
 use Rattle.bsp_store_load.specs.declared.plan_rows.PlanRows.{PlanRows}
 use Rattle.bsp_store_load.proofs.PlanReads.{found_is, not_none}

@@ -1,20 +1,19 @@
-use Rattle.bsp_store_base.proofs.Std.{◌∙◌, ◌≡◌, AllByRecursion, List, map, refl, rules}
+use Rattle.bsp_store_base.proofs.Std.{◌∙◌, ◌≡◌, AllByRecursion, List, map, refl, rules, ℕ}
 use Rattle.sqlite_value.specs.Order.{Row}
 use Rattle.bsp_store_base.specs.Entries.{CommissionTax, Period, Rate}
 use Rattle.bsp_store_base.proofs.Base.{commission_tax_row, IsCommissionTax, IsPeriod, IsRate, period_row, placed, rate_row}
-use Rattle.bsp_store_rows.specs.Reading.{IsCommissionTaxRow, IsPeriodRow, IsRateRow}
 use Rattle.bsp_store_load.specs.Stored.{AreReadAs}
 use Rattle.bsp_store_load.proofs.PlanReads.{found_is, not_none, placed_read}
 use Rattle.bsp_store_load.proofs.published.text_of.Goals as goal
 
-rates_read : (values : List Rate) → AllByRecursion IsRate values → (rows : List Row) → rows ≡ map rate_row (placed 0 values) → AreReadAs (λ rate row. IsRate rate × IsRateRow row rate) rows values
-rates_read = placed_read _ rate_row IsRate (λ place rate fits. (fits, record { bears_airline = refl; bears_from = refl; bears_hundredths = refl }))
+rates_read : (values : List Rate) → AllByRecursion IsRate values → (rows : List Row) → rows ≡ map rate_row (placed 0 values) → AreReadAs (λ rate row. IsRate rate × (place : ℕ) × (row ≡ rate_row (place, rate))) rows values
+rates_read = placed_read _ rate_row IsRate (λ place rate fits. (fits, place, refl))
 
-periods_read : (values : List Period) → AllByRecursion IsPeriod values → (rows : List Row) → rows ≡ map period_row (placed 0 values) → AreReadAs (λ period row. IsPeriod period × IsPeriodRow row period) rows values
-periods_read = placed_read _ period_row IsPeriod (λ place period fits. (fits, record { bears_code = refl; bears_first = refl; bears_last = refl; bears_remittance = refl }))
+periods_read : (values : List Period) → AllByRecursion IsPeriod values → (rows : List Row) → rows ≡ map period_row (placed 0 values) → AreReadAs (λ period row. IsPeriod period × (place : ℕ) × (row ≡ period_row (place, period))) rows values
+periods_read = placed_read _ period_row IsPeriod (λ place period fits. (fits, place, refl))
 
-taxes_read : (values : List CommissionTax) → AllByRecursion IsCommissionTax values → (rows : List Row) → rows ≡ map commission_tax_row (placed 0 values) → AreReadAs (λ tax row. IsCommissionTax tax × IsCommissionTaxRow row tax) rows values
-taxes_read = placed_read _ commission_tax_row IsCommissionTax (λ place tax fits. (fits, record { bears_from = refl; bears_hundredths = refl }))
+taxes_read : (values : List CommissionTax) → AllByRecursion IsCommissionTax values → (rows : List Row) → rows ≡ map commission_tax_row (placed 0 values) → AreReadAs (λ tax row. IsCommissionTax tax × (place : ℕ) × (row ≡ commission_tax_row (place, tax))) rows values
+taxes_read = placed_read _ commission_tax_row IsCommissionTax (λ place tax fits. (fits, place, refl))
 
 pub returns-in_default-2 : goal.returns-in_default-2
 returns-in_default-2 c = λ p tokens terms is s formed are listed.

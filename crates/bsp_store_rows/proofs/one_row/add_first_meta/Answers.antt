@@ -11,8 +11,8 @@ returns-clause-added g c = λ clean now none keeps.
     let old = state g.S.Store c.args.tx.now.conn.now in
     let new = state g.S.Store c.execute.new.self.conn.now in
     let first : Meta = record { day = c.args.day; closed = 0 } in
-    let four : length c.meta_cells-cells.result ≡ 4 = search rules in
-    let is : bound (take 4 c.values_of.result) ≡ meta_row first = ap (λ n. bound (take n c.values_of.result)) (sym four) ∙ c.values_of.ensures.values ∙ c.meta_cells-cells.ensures in (
+    let four : length c.cells-cells.result ≡ 4 = search rules in
+    let is : bound (take 4 c.values_of.result) ≡ meta_row first = ap (λ n. bound (take n c.values_of.result)) (sym four) ∙ c.values_of.ensures.values ∙ c.cells-cells.ensures.written in (
       adds old new first c.in_ok-execute.field-0 now none keeps (rw is at (c.in_ok-execute.ensures.runs clean inside).0),
       adds_sound old new first c.in_ok-execute.field-0 keeps.schema (rw is at (c.in_ok-execute.ensures.runs clean inside).0),
     )

@@ -5,9 +5,8 @@ use Rattle.bsp_store_rows.proofs.one_row.put_terms.Goals as goal
 
 pub returns-clause-ok : goal.returns-clause-ok
 returns-clause-ok g c = λ now last a b met stands inside.
-    let row = c.terms_cells.ensures in
     let cleared = (clearing g.S.Store c.args.conn.now c.execute.new.self (Ok _) c.in_ok-execute.ensures.survives c.in_ok-execute.ensures.runs).0 now last a b tt stands inside in
-    let added = (adding g.S.Store c.execute.new.self c.run.new.conn c.in-Some.terms (Ok _) (rw row at c.in_ok-run.ensures.survives) (λ clean. rw row at (c.in_ok-run.ensures.runs clean))).0 in
+    let added = (adding g.S.Store c.execute.new.self c.run_entry.new.conn c.in-Some.terms (Ok _) c.in_ok-run_entry.ensures.survives c.in_ok-run_entry.ensures.runs).0 in
     rw c.in-Some.is (added (without now) last a b refl cleared.0 cleared.1)
 
 pub returns-in_default-clause-ok : goal.returns-in_default-clause-ok
@@ -16,9 +15,8 @@ returns-in_default-clause-ok g c = rw c.in_default.is (clearing g.S.Store c.args
 pub returns-in_err-execute-clause-err : goal.returns-in_err-execute-clause-err
 returns-in_err-execute-clause-err g c = on_err c.from_residual.result (clearing g.S.Store c.args.conn.now c.execute.new.self (Err _) c.in_err-execute.ensures.survives c.in_err-execute.ensures.runs).1
 
-pub returns-in_err-run-clause-err : goal.returns-in_err-run-clause-err
-returns-in_err-run-clause-err g c =
-    let row = c.terms_cells.ensures in
+pub returns-in_err-run_entry-clause-err : goal.returns-in_err-run_entry-clause-err
+returns-in_err-run_entry-clause-err g c =
     let cleared = (clearing g.S.Store c.args.conn.now c.execute.new.self (Ok _) c.in_ok-execute.ensures.survives c.in_ok-execute.ensures.runs).0 in
-    let fails = (adding g.S.Store c.execute.new.self c.run.new.conn c.in-Some.terms (Err _) (rw row at c.in_err-run.ensures.survives) (λ clean. rw row at (c.in_err-run.ensures.runs clean))).1 in
-    on_err c.from_residual-in_err-run.result (second_fails g.S.Store c.args.conn.now c.execute.new.self c.run.new.conn without cleared fails)
+    let fails = (adding g.S.Store c.execute.new.self c.run_entry.new.conn c.in-Some.terms (Err _) c.in_err-run_entry.ensures.survives c.in_err-run_entry.ensures.runs).1 in
+    on_err c.from_residual-in_err-run_entry.result (second_fails g.S.Store c.args.conn.now c.execute.new.self c.run_entry.new.conn without cleared fails)

@@ -7,13 +7,13 @@ loop-at-init g c = none_added g.T.PlacedTable.list c.statements-statements.ensur
 
 pub loop-at-preserved : goal.loop-at-preserved
 loop-at-preserved g c =
-    one_added g.T.PlacedTable.list c.statements-statements.ensures.lawful g.S.Store c.args.conn.now c.args.from c.args.entries.now c.loop-at.conn c.run_on_row.new.conn c.loop-at.at c.loop-at.invariant
-    _ c.statements-statements.ensures.meant.insert c.index-entries-at.result _ c.loop-at-test.true c.index-entries-at.is c.in_ok-run_on_row.ensures
+    one_added g.T.PlacedTable.list c.statements-statements.ensures.lawful g.S.Store c.args.conn.now c.args.from c.args.entries.now c.loop-at.conn c.run_row.new.conn c.loop-at.at c.loop-at.invariant
+    _ c.statements-statements.ensures.meant.insert c.index-entries-at.result _ c.loop-at-test.true c.index-entries-at.is c.in_ok-run_row.ensures
 
 pub returns-clause-ok : goal.returns-clause-ok
 returns-clause-ok g c = all_added g.T.PlacedTable.list c.statements-statements.ensures.lawful g.S.Store c.args.conn.now c.args.from c.args.entries.now c.loop-at.conn c.loop-at.at c.loop-at.invariant c.loop-at-test.false
 
-pub returns-in_err-run_on_row-clause-err : goal.returns-in_err-run_on_row-clause-err
-returns-in_err-run_on_row-clause-err g c =
-    on_err c.from_residual.result (not_added g.T.PlacedTable.list c.statements-statements.ensures.lawful g.S.Store c.args.conn.now c.args.from c.args.entries.now c.loop-at.conn c.run_on_row.new.conn c.loop-at.at c.loop-at.invariant
-    _ c.statements-statements.ensures.meant.insert c.index-entries-at.result _ c.in_err-run_on_row.ensures)
+pub returns-in_err-run_row-clause-err : goal.returns-in_err-run_row-clause-err
+returns-in_err-run_row-clause-err g c =
+    on_err c.from_residual.result (not_added g.T.PlacedTable.list c.statements-statements.ensures.lawful g.S.Store c.args.conn.now c.args.from c.args.entries.now c.loop-at.conn c.run_row.new.conn c.loop-at.at c.loop-at.invariant
+    _ c.statements-statements.ensures.meant.insert c.index-entries-at.result _ c.in_err-run_row.ensures)

@@ -1,35 +1,28 @@
-use Rattle.bsp_store_base.proofs.Std.{◌∙◌, ◌≡◌, ap, get, refl, rules, subst, sym}
+use Rattle.bsp_store_base.proofs.Std.{◌∙◌, ◌≡◌, ap, get, refl, rules, Some, subst, sym}
 use Rattle.bsp_rows.specs.Writes.{with_agent_token}
 use Rattle.bsp_memory_rows.specs.Tables.{rows_of}
 use Rattle.bsp_store_base.proofs.Base.{agent_row, IsAgentEntry}
-use Rattle.bsp_store_rows.specs.CallerReading.{agent_in}
-use Rattle.bsp_store_rows.proofs.CallerBack.{agent_back}
 use Rattle.bsp_store_load.specs.Formed.{AreFormed}
 use Rattle.bsp_store_load.proofs.FormedContent.{agent_formed}
-use Rattle.bsp_store_rows.specs.Cells.{written}
-use Rattle.bsp_store_load.proofs.RowReads.{none_found, not_none, own_is, not_refused}
+use Rattle.bsp_store_load.proofs.RowReads.{none_found, not_none, own_is}
 use Rattle.bsp_store_load.proofs.callers.AgentsStoredTableAgentCodeTokenTables.put.Goals as goal
 
 pub returns-in_default-clause-entry : goal.returns-in_default-clause-entry
 returns-in_default-clause-entry c = λ e fits lacks is.
-    absurd (not_none agent_row c.args.row.now c.read_agent.result e (c.read_agent.ensures ∙ ap agent_in is ∙ agent_back e.0 e.1 fits.agent.has_digits fits.agent.is_checked fits.token) c.in_default.is)
-
-pub returns-then-not-is_row-clause-entry : goal.returns-then-not-is_row-clause-entry
-returns-then-not-is_row-clause-entry c = λ e fits lacks is.
-    let some = c.read_agent.ensures ∙ ap agent_in is ∙ agent_back e.0 e.1 fits.agent.has_digits fits.agent.is_checked fits.token in
-    absurd (not_refused agent_row c.args.row.now c.read_agent.result e some (c.in-Some.agent, c.in-Some.token) c.in-Some.is is (written c.agent_cells.result) (search rules) refl _ c.if-not-is_row.true c.is_row.ensures.whole)
+    let some : c.read_entry.result ≡ Some e = c.read_entry.ensures.back e fits tt is in
+    absurd (not_none agent_row c.args.row.now c.read_entry.result e some c.in_default.is)
 
 pub returns-then-is_some-clause-entry : goal.returns-then-is_some-clause-entry
 returns-then-is_some-clause-entry c = λ e fits lacks is.
-    let some = c.read_agent.ensures ∙ ap agent_in is ∙ agent_back e.0 e.1 fits.agent.has_digits fits.agent.is_checked fits.token in
-    let same = own_is agent_row c.args.row.now c.read_agent.result e some (c.in-Some.agent, c.in-Some.token) c.in-Some.is in
+    let some : c.read_entry.result ≡ Some e = c.read_entry.ensures.back e fits tt is in
+    let same = own_is agent_row c.args.row.now c.read_entry.result e some (c.in-Some.agent, c.in-Some.token) c.in-Some.is in
     let at : c.agent_token.result ≡ get (rows_of c.args.tables.now).agents c.in-Some.agent = search rules in
     absurd (none_found c.agent_token.result c.is_some.result c.is_some.ensures c.if-is_some.true (at ∙ ap (λ p. get (rows_of c.args.tables.now).agents p.0) same ∙ lacks))
 
 pub returns-clause-entry : goal.returns-clause-entry
 returns-clause-entry c = λ e fits lacks is.
-    let some = c.read_agent.ensures ∙ ap agent_in is ∙ agent_back e.0 e.1 fits.agent.has_digits fits.agent.is_checked fits.token in
-    let same = own_is agent_row c.args.row.now c.read_agent.result e some (c.in-Some.agent, c.in-Some.token) c.in-Some.is in
+    let some : c.read_entry.result ≡ Some e = c.read_entry.ensures.back e fits tt is in
+    let same = own_is agent_row c.args.row.now c.read_entry.result e some (c.in-Some.agent, c.in-Some.token) c.in-Some.is in
     let put : rows_of c.set_agent_token.new.self ≡ with_agent_token c.in-Some.agent c.in-Some.token (rows_of c.args.tables.now) = search rules in
     (refl, c.commit.ensures.rows ∙ put ∙ ap (λ p. with_agent_token p.0 p.1 (rows_of c.args.tables.now)) same)
 

@@ -1,7 +1,7 @@
 use Rattle.bsp_store_base.proofs.Std.{◌∙◌, ◌≡◌, ap, FinMap, get, IsTrue, None, none-some, Option, Some, SomeIff, subst, sym}
 use Rattle.bsp_store_base.proofs.Entries.{CivilDay, day_number, HasNumberKey, is_day, Item, item_cmp, ItemKey, key_of, ReportedDocument, same_Some, second_of}
 use Rattle.bsp_store_base.proofs.Base.{item_row, tax_with, ticket_cmp}
-use Rattle.bsp_store_base.specs.declared.taxes.ItemTax.{ItemTax}
+use Rattle.bsp_store_columns.specs.declared.taxes.ItemTax.{ItemTax}
 use Rattle.bsp_store_base.proofs.Sqlite.{column, Int, Row}
 use Rattle.bsp_store_base.specs.ItemReading.{item_in, key_in}
 use Rattle.bsp_store_base.proofs.Back.{item_back, key_back}

@@ -1,7 +1,7 @@
 use Rattle.bsp_store_base.proofs.Std.{◌∙◌, ap, from_entries, get, option_and_then, sym}
 use Rattle.bsp_maps.proofs.UndoLemmas.{found}
 use Rattle.bsp_store_base.proofs.Base.{ticket_cmp, ticket_total}
-use Rattle.bsp_store_base.specs.declared.tickets.TicketKey.{TicketKey}
+use Rattle.bsp_store_columns.specs.declared.tickets.TicketKey.{TicketKey}
 use Rattle.bsp_store_load.proofs.items.StoredItems.second_at.Goals as goal
 
 pub returns : goal.returns

@@ -1,6 +1,0 @@
-use Rattle.std.proofs.Common.{refl}
-use Rattle.bsp_store_base.proofs.MapTables.{ran_with}
-use Rattle.bsp_store_base.proofs.seconds.SecondsKeyedTableTicketKeyReportedDocument.run_on_key.Goals as goal
-
-pub returns : goal.returns
-returns g c = ran_with g.S.Store c.args.text.now _ _ c.args.conn.now c.execute.new.self c.execute.result (rw (c.agent_digits-agent.ensures, c.number_digits-number.ensures) refl) c.execute.ensures.runs c.execute.ensures.survives

@@ -1,0 +1,5 @@
+pub mod Placing
+pub mod Days
+pub mod ReadBack
+pub mod Words
+pub mod AirlineLemmas
