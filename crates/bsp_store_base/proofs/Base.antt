@@ -21,7 +21,7 @@ pub use Rattle.bsp_store_base.proofs.Writing.{deletes, inserts, same_value, upda
 pub use Rattle.bsp_store_columns.specs.Airlines.{entry_of, HasStoredPlace, place_among, place_of, published_at, registered, unplaced, with_published}
 unfoldable pub use Rattle.bsp_store_columns.specs.Airlines.{airline_entries}
 pub use Rattle.bsp_store_base.specs.Calls.{Changes, GivesUp, GivesUpIf, IsKept}
-pub use Rattle.bsp_store_base.specs.Columns.{agent_row, agent_text, airline_row, airline_text, code_digits, commission_tax_row, count, flag, item_row, item_tax_row, memo_row, Meta, meta_row, meta_rows, number_text, period_row, period_text, placed, rate_row, second_row, stock_row, tally_row, tally_tax_row, tax_row, taxes_text, terms_row, terms_rows, version}
+pub use Rattle.bsp_store_base.specs.Columns.{agent_row, agent_text, airline_row, airline_text, code_digits, commission_tax_row, count, flag, item_row, item_tax_row, memo_row, Meta, meta_row, meta_rows, number_text, period_row, period_text, placed, rate_row, second_row, stock_row, tally_row, tally_tax_row, tax_row, terms_row, terms_rows, version}
 pub use Rattle.bsp_store_base.specs.Content.{agent_part, airline_part, commission_tax_part, Content, content_with, form, item_part, item_tax_part, memo_part, meta_part, period_part, rate_part, second_part, stock_part, tally_part, tally_tax_part, terms_part, width_of}
 pub use Rattle.bsp_store_base.specs.Forms.{IsAgent, IsAgentEntry, IsAirline, IsAirlineEntry, IsCommissionTax, IsFormed, IsItemEntry, IsMemoEntry, IsMeta, IsPeriod, IsRangeEntry, IsRate, IsSecondEntry, IsTallyKey, IsTaxEntry}
 pub use Rattle.bsp_store_base.specs.Kept.{AreTreesOf, columns_of, HasCommitted, HasContents, IsInside, Keeps, KeepsRows, KeepsSound, KeepsTable, Part, Reads, Spares}

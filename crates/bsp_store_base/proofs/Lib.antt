@@ -21,5 +21,4 @@ pub mod Entries
 pub mod Base
 pub mod Back
 pub mod ItemOrders
-pub mod TaxBack
 pub mod ItemTables

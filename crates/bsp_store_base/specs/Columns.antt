@@ -1,12 +1,7 @@
 -- What the book keeps, as rows of tables: each entry is one row, a value for each column.
-use Rattle.std.specs.Prelude.{[], ◌∷◌, List, map, None, Option, Some}
-use Rattle.std.specs.List.{concat}
+use Rattle.std.specs.Prelude.{[], ◌∷◌, List, None, Option, Some}
 use Rattle.sqlite_value.specs.Order.{Row}
-use Rattle.sqlite_value.specs.declared.value.Value.{Value}
-use Rattle.bsp_store_base.specs.Sqlite.{Text}
 use Rattle.bsp_store_base.specs.Entries.{Item, ItemKey, Tally, TallyKey, Terms}
-use Rattle.bsp_rows.specs.Amounts.{Amounts}
-use Rattle.bsp_rows.specs.Writing.{tax_text}
 pub use Rattle.bsp_store_columns.specs.declared.tables.meta.Meta.{Meta}
 pub use Rattle.bsp_store_columns.specs.Rows.{agent_row, airline_row, commission_tax_row, item_row, memo_row, meta_row, period_row, rate_row, second_row, stock_row, tally_row, tally_sum_row, tax_row, terms_row}
 pub use Rattle.bsp_store_columns.specs.Values.{agent_text, airline_text, code_digits, count, flag, number_text, only_id, period_text, placed, version}
@@ -22,10 +17,6 @@ terms_rows (Some terms) = terms_row terms ∷ []
 
 -- ---- items
 
-abbrev pub taxes_text : Amounts → Value
-taxes_text a = Text (concat (map tax_text a.taxes))
-
--- without its tax, and without a second related document
 abbrev pub item_tax_row : ItemKey × Item → Row
 item_tax_row e = tax_row (e.0, tax_with e.1)
 

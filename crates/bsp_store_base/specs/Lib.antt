@@ -15,5 +15,4 @@ pub mod MapTables
 pub mod Order
 pub mod Made
 pub mod Base
-pub mod ItemReading
 pub mod ItemTables

@@ -3,7 +3,7 @@
 ghost use Rattle.std.specs.Prelude.{◌≤◌, length, OnErr, OnOk};
 ghost use Rattle.bsp_store_base.specs.Calls.{Changes, GivesUp};
 ghost use Rattle.bsp_store_base.specs.MapTables.{after, HasRun, holds_row};
-ghost use Rattle.bsp_store_columns.specs.Cells.{written};
+ghost use Rattle.bsp_store_columns.specs.Cells.{widest, written};
 
 use bsp_store_columns::{Cell, CellArray, Entry, values_of};
 use sqlite::{Alter, Connection, Error};
@@ -25,7 +25,7 @@ pub struct Statements {
 pub trait KeyedTable<K: Copy + Drop, V: Copy + Drop> {
     ghost use Rattle.std.specs.declared.cmp.Ordering.{Ordering};
     ghost use Rattle.std.specs.Prelude.{◌≡◌, ◌≤◌, length};
-    ghost use Rattle.bsp_store_columns.specs.Cells.{written};
+    ghost use Rattle.bsp_store_columns.specs.Cells.{widest, written};
     ghost use Rattle.bsp_store_base.specs.MapTables.{AreStatementsOf, IsMapTable, MapTable};
 
     /// The cells of a key.
@@ -47,7 +47,7 @@ pub trait KeyedTable<K: Copy + Drop, V: Copy + Drop> {
     /// The cells of a key.
     fn key_cells(&self, key: &K) -> Self::KeyCells
         ensures written { written (Self.KeyCells.CellArray.list result) ≡ table.key_of key.now }
-        ensures narrow { length (Self.KeyCells.CellArray.list result) ≤ 19 };
+        ensures narrow { length (Self.KeyCells.CellArray.list result) ≤ widest };
 
     /// The entry of a key and a value.
     fn entry(&self, key: &K, value: &V) -> Self::Entry
@@ -116,7 +116,7 @@ fn run_key<K: Copy + Drop, V: Copy + Drop, T: KeyedTable<K, V>, S: Alter>(
 ///
 /// Those of the store.
 fn run<S: Alter>(conn: &mut Connection<S>, text: &str, cells: &[Cell]) -> Result<usize, Error>
-    requires { length cells.now ≤ 19 }
+    requires { length cells.now ≤ widest }
     ensures { HasRun S.Store text.now (written cells.now) conn.old conn.new result }
 {
     conn.execute(text, &values_of(cells)[..cells.len()])

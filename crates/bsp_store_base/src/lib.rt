@@ -10,8 +10,6 @@
 //! second related document of a ticket.
 #![tactic(auto)]
 
-mod columns;
-mod item_reading;
 mod item_taxes;
 mod items;
 mod keyed_table;
@@ -21,7 +19,6 @@ mod schema;
 mod seconds;
 mod tally_taxes;
 
-pub use item_reading::{read_item, read_item_key};
 pub use item_taxes::ItemTaxes;
 pub use items::Items;
 pub use keyed_table::{KeyedTable, Statements, put, run_entry};

@@ -3,3 +3,4 @@ pub mod Days
 pub mod ReadBack
 pub mod Words
 pub mod AirlineLemmas
+pub mod TaxPlaces

@@ -1,5 +1,5 @@
 -- The values that are written for each entry.
-use Rattle.std.specs.Prelude.{flat_map, List, map}
+use Rattle.std.specs.Prelude.{flat_map, List, map, ℕ}
 use Rattle.sqlite_value.specs.declared.value.Value.TheVariants.{Int, Null, Text}
 use Rattle.sqlite_value.specs.Order.{Row}
 use Rattle.sqlite_value.specs.declared.value.Value.{Value}
@@ -22,6 +22,10 @@ cell (Token token) = Text token
 cell (Kind kind) = Text (kind_text kind)
 cell (Reason reason) = Text reason
 cell (State state) = Text (state_text state)
+
+-- no table has more columns
+abbrev pub widest : ℕ
+widest = 32
 
 -- a value for each column
 abbrev pub written : List Cell → Row

@@ -5,3 +5,5 @@ pub mod Tickets
 pub mod Cells
 pub mod Reading
 pub mod Rows
+pub mod TaxPlaces
+pub mod BareItems

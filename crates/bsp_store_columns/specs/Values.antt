@@ -1,9 +1,12 @@
 -- The values of columns.
-use Rattle.std.specs.Prelude.{[], ◌%◌, ◌+◌, ◌/◌, ◌<◌, ◌≡◌, ◌^◌, ◌∷◌, Bool, if◌then◌else◌, List, nat_lt, pos, suc, ℕ}
+use Rattle.std.specs.Prelude.{[], ◌%◌, ◌+◌, ◌/◌, ◌<◌, ◌≡◌, ◌^◌, ◌∷◌, Bool, if◌then◌else◌, List, map, nat_lt, Option, pos, suc, ℕ}
 use Rattle.sqlite_value.specs.declared.value.Value.TheVariants.{Int, Text}
 use Rattle.sqlite_value.specs.declared.value.Value.{Value}
 use Rattle.bsp_rows.specs.Codes.{check_digit_of}
+use Rattle.std.specs.List.{concat}
 use Rattle.bsp_rows.specs.Decimal.{fixed_digits}
+use Rattle.bsp_rows.specs.Tax.{Tax}
+use Rattle.bsp_rows.specs.Writing.{tax_text}
 
 -- a number in decimal digits, of this width where it fits, and else of a greater one
 abbrev pub code_digits : ℕ → ℕ → List ℕ
@@ -26,6 +29,10 @@ count n = Int (pos n)
 
 abbrev pub flag : Bool → Value
 flag holds = Int (if holds then pos 1 else pos 0)
+
+-- six places of taxes
+abbrev pub taxes_text : List (Option Tax) → Value
+taxes_text taxes = Text (concat (map tax_text taxes))
 
 -- the key of a table's only row
 abbrev pub only_id : Value

@@ -3,7 +3,7 @@
 ghost use Rattle.std.specs.Prelude.{◌≡◌, ◌≤◌, ◌-◌, drop, length, replicate, take};
 ghost use Rattle.sqlite.specs.Values.{bound, bound_value};
 ghost use Rattle.sqlite_value.specs.Value.{owned};
-ghost use Rattle.bsp_store_columns.specs.Cells.{cell, written};
+ghost use Rattle.bsp_store_columns.specs.Cells.{cell, widest, written};
 ghost use Rattle.bsp_store_columns.specs.Values.{flag};
 
 use bsp_rows::{MemoKind, MemoState, Reason, Token};
@@ -73,13 +73,16 @@ impl Cell {
     }
 }
 
-/// The values of nineteen cells at the most, one for each, and NULL after them.
-pub fn values_of(cells: &[Cell]) -> [ValueRef<'_>; 19]
-    requires { length cells.now ≤ 19 }
+/// How many columns a table has at the most.
+const WIDEST: usize = 32;
+
+/// The values of as many cells as a table has columns, one for each, and NULL after them.
+pub fn values_of(cells: &[Cell]) -> [ValueRef<'_>; WIDEST]
+    requires { length cells.now ≤ widest }
     ensures values { bound (take (length cells.now) result) ≡ written cells.now }
-    ensures rest { drop (length cells.now) result ≡ replicate (19 - length cells.now) ValueRef.Null }
+    ensures rest { drop (length cells.now) result ≡ replicate (widest - length cells.now) ValueRef.Null }
 {
-    let mut values = [ValueRef::Null; 19];
+    let mut values = [ValueRef::Null; WIDEST];
     for at in 0..cells.len() {
         values[at] = cells[at].value();
     }

@@ -31,7 +31,7 @@ impl<const N: usize> CellArray for [Cell; N] {
 pub trait Entry: Sized {
     ghost use Rattle.std.specs.Prelude.{◌≡◌, ◌≤◌, length};
     ghost use Rattle.sqlite_value.specs.Order.{Row as Stored};
-    ghost use Rattle.bsp_store_columns.specs.Cells.{written};
+    ghost use Rattle.bsp_store_columns.specs.Cells.{widest, written};
 
     /// The cells of its row.
     type Cells: CellArray + Drop;
@@ -46,7 +46,7 @@ pub trait Entry: Sized {
     fn cells(&self) -> Self::Cells
         requires { fits self.now }
         ensures written { written (Self.Cells.CellArray.list result) ≡ row self.now }
-        ensures narrow { length (Self.Cells.CellArray.list result) ≤ 19 };
+        ensures narrow { length (Self.Cells.CellArray.list result) ≤ widest };
 }
 
 /// An entry that is read back of its row.

@@ -13,18 +13,20 @@ mod digits;
 mod entry;
 mod reading;
 mod tables;
+mod tax_places;
 mod taxes;
 mod tickets;
 mod types;
 
 pub use airlines::{AirlineEntry, place_of};
 pub use cells::{Cell, values_of};
-pub use column::{Column, Columns, End};
+pub use column::{Column, Columns, End, Filled};
 pub use digits::{agent_digits, airline_digits, number_digits, period_digits};
 pub use entry::{CellArray, Entry, ReadEntry, read_entry};
 pub use reading::{
     agent_at, airline_at, amount_at, below_at, day_at, int_at, is_null, number_at, period_at,
 };
+pub use tables::item::{BareItem, Completed};
 pub use tables::meta::{Meta, VERSION, read_version};
 pub use tables::tally::read_tally_key;
 pub use taxes::ItemTax;

@@ -8,7 +8,7 @@
 mod agent;
 mod airline;
 mod commission_tax;
-mod item;
+pub(crate) mod item;
 mod item_tax;
 mod memo;
 pub(crate) mod meta;

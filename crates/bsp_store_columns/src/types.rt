@@ -1,12 +1,13 @@
 //! The values that have one column each.
 
-ghost use Rattle.std.specs.Prelude.{◌≡◌, ◌<◌, ◌^◌, IfSome, IsTrue, length, Some, true};
+ghost use Rattle.std.specs.Prelude.{◌≡◌, ◌<◌, ◌^◌, IsTrue, length, Some, true};
 ghost use Rattle.sqlite_value.specs.declared.value.Value.TheVariants.{Int, Text};
-ghost use Rattle.sqlite.specs.Values.{or_null};
-ghost use Rattle.bsp_store_columns.specs.Values.{agent_text, airline_text, count, flag, IsAgent, number_text, period_text};
+ghost use Rattle.bsp_store_columns.specs.Values.{agent_text, airline_text, count, flag, IsAgent, number_text, period_text, taxes_text};
 ghost use Rattle.bsp_store_columns.specs.Reading.{kind_in, state_in};
 ghost use Rattle.bsp_rows.specs.Days.{day_number};
-ghost use Rattle.bsp_rows.specs.Stored.{IsStoredAmount};
+ghost use Rattle.bsp_rows.specs.GroupValues.{are_taxes};
+ghost use Rattle.bsp_rows.specs.RetRecordsTexts.{code_text};
+ghost use Rattle.bsp_rows.specs.Stored.{InEach, IsStoredAmount, IsStoredTax};
 ghost use Rattle.bsp_rows.specs.CivilDay.{is_day};
 ghost use Rattle.bsp_rows.specs.Texts.{kind_text, state_text};
 ghost use Rattle.bsp_rows.specs.Letters.{currency_reading};
@@ -14,13 +15,12 @@ ghost use Rattle.bsp_rows.specs.Reasons.{is_reason};
 ghost use Rattle.bsp_rows.specs.Tokens.{is_token};
 ghost use Rattle.sqlite_value.specs.Order.{column};
 
-use crate::column::Column;
-use crate::{
-    agent_at, airline_at, amount_at, below_at, day_at, int_at, is_null, number_at, period_at,
-};
+use crate::column::{Column, Filled};
+use crate::tax_places::written_taxes;
+use crate::{agent_at, airline_at, amount_at, below_at, day_at, int_at, number_at, period_at};
 use bsp_rows::{
     AgentCode, AirlineCode, Amount, Currency, Day, DocNumber, MemoKind, MemoState, PeriodCode,
-    Reason, Token,
+    Reason, Tax, Token, TransactionCode,
 };
 use sqlite::Row;
 use sqlite_value::value::ValueRef;
@@ -49,6 +49,10 @@ impl Column for AirlineCode {
     }
 }
 
+impl Filled for AirlineCode {
+    fn filled() {}
+}
+
 impl Column for PeriodCode {
     ghost cell = { period_text };
 
@@ -59,17 +63,8 @@ impl Column for PeriodCode {
     }
 }
 
-impl Column for Option<PeriodCode> {
-    ghost cell = { or_null period_text };
-
-    ghost is_formed = { λ code. IfSome code (λ n. n < 10 ^ 5) };
-
-    fn read_at(row: &Row, at: usize) -> Option<Option<PeriodCode>> {
-        if is_null(row, at) {
-            return Some(None);
-        }
-        Some(Some(PeriodCode::read_at(row, at)?))
-    }
+impl Filled for PeriodCode {
+    fn filled() {}
 }
 
 impl Column for DocNumber {
@@ -124,6 +119,10 @@ impl Column for u16 {
     }
 }
 
+impl Filled for u16 {
+    fn filled() {}
+}
+
 impl Column for u32 {
     ghost cell = { count };
 
@@ -146,15 +145,8 @@ impl Column for usize {
     }
 }
 
-impl Column for Option<usize> {
-    ghost cell = { or_null count };
-
-    fn read_at(row: &Row, at: usize) -> Option<Option<usize>> {
-        if is_null(row, at) {
-            return Some(None);
-        }
-        Some(Some(usize::read_at(row, at)?))
-    }
+impl Filled for usize {
+    fn filled() {}
 }
 
 impl Column for Day {
@@ -179,6 +171,10 @@ impl Column for Amount {
     }
 }
 
+impl Filled for Amount {
+    fn filled() {}
+}
+
 // ---- texts
 
 impl<const N: usize> Column for [u8; N] {
@@ -194,6 +190,10 @@ impl<const N: usize> Column for [u8; N] {
     }
 }
 
+impl<const N: usize> Filled for [u8; N] {
+    fn filled() {}
+}
+
 impl Column for Token {
     ghost cell = { Text };
 
@@ -207,17 +207,8 @@ impl Column for Token {
     }
 }
 
-impl Column for Option<Token> {
-    ghost cell = { or_null Text };
-
-    ghost is_formed = { λ token. IfSome token (λ t. is_token t ≡ true) };
-
-    fn read_at(row: &Row, at: usize) -> Option<Option<Token>> {
-        if is_null(row, at) {
-            return Some(None);
-        }
-        Some(Some(Token::read_at(row, at)?))
-    }
+impl Filled for Token {
+    fn filled() {}
 }
 
 impl Column for Currency {
@@ -241,6 +232,19 @@ impl Column for Reason {
     fn read_at(row: &Row, at: usize) -> Option<Reason> {
         match row.get_ref(at) {
             Ok(ValueRef::Text(text)) => Reason::read(text),
+            _ => None,
+        }
+    }
+}
+
+impl Column for TransactionCode {
+    ghost cell = { λ code. Text (code_text code) };
+
+    fn read_at(row: &Row, at: usize) -> Option<TransactionCode> {
+        match row.get_ref(at) {
+            Ok(ValueRef::Text(b"TKTT")) => Some(TransactionCode::Tktt),
+            Ok(ValueRef::Text(b"RFND")) => Some(TransactionCode::Rfnd),
+            Ok(ValueRef::Text(b"CANX")) => Some(TransactionCode::Canx),
             _ => None,
         }
     }
@@ -288,4 +292,21 @@ impl Column for MemoState {
     fn read_at(row: &Row, at: usize) -> Option<MemoState> {
         state_at(row, at)
     }
+}
+
+impl Column for [Option<Tax>; 6] {
+    ghost cell = { taxes_text };
+
+    ghost is_formed = { λ taxes. (length taxes ≡ 6) × InEach IsStoredTax taxes × (are_taxes 0 taxes ≡ true) };
+
+    fn read_at(row: &Row, at: usize) -> Option<[Option<Tax>; 6]> {
+        match row.get_ref(at) {
+            Ok(ValueRef::Text(text)) => written_taxes(text),
+            _ => None,
+        }
+    }
+}
+
+impl Filled for [Option<Tax>; 6] {
+    fn filled() {}
 }

@@ -3,7 +3,7 @@ use Rattle.bsp_store_base.proofs.Std.{[], ◌&&◌, ◌∙◌, ◌∷◌, ◌≡
 use Rattle.bsp_store_base.proofs.Entries.{is_wrong_place, IsRight, Item, item_cmp, ItemKey, ReportedDocument, second_of}
 use Rattle.bsp_store_base.proofs.Base.{entries-seconds_of, IsItemEntry, IsSecondEntry, IsTaxEntry, item_tax_row, second_entry, second_pair, seconds_of, tax_row, tax_with, ticket}
 use Rattle.bsp_store_columns.specs.declared.tickets.TicketKey.{TicketKey}
-use Rattle.bsp_store_base.proofs.TaxBack.{tax_formed}
+use Rattle.bsp_store_base.proofs.Back.{tax_formed}
 use Rattle.bsp_store_load.specs.Beside.{IsSecond, tax_entry, taxes_of}
 
 -- ---- the taxes of items

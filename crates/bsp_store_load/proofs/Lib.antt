@@ -16,7 +16,6 @@ pub mod TaxedLemmas
 pub mod Building
 pub mod RowReads
 pub mod EntryLemmas
-pub mod PlainRows
 pub mod TallyLemmas
 pub mod NothingLemmas
 pub mod FormedContent

@@ -12,13 +12,12 @@ ghost use Rattle.bsp_store_load.specs.Beside.{IsAwaited, IsKeyed, IsStoredItem, 
 ghost use Rattle.bsp_store_load.specs.Formed.{AreWhole};
 ghost use Rattle.bsp_store_load.specs.Adding.{taxed_added};
 
-use crate::equal::is_entry;
 use crate::formed::formed_item;
 use crate::load::StoredTable;
 use bsp_memory_rows::{NoRoom, Tables};
 use bsp_rows::{Item, ItemKey, ReportedDocument};
-use bsp_store_base::{Items, KeyedTable, read_item, read_item_key};
-use bsp_store_columns::{ItemTax, TicketKey};
+use bsp_store_base::{Items, KeyedTable};
+use bsp_store_columns::{BareItem, Completed, ItemTax, TicketKey, read_entry};
 use sqlite::Row;
 use std::collections::BTreeMap;
 
@@ -43,6 +42,13 @@ fn has_tax(taxes: &BTreeMap<ItemKey, ItemTax>, key: &ItemKey, item: &Item) -> bo
     ensures { IsTrue result ↔ (get (from_entries {R = item_cmp} taxes.now.entries) key.now ≡ Some (tax_with item.now)) }
 {
     tax_at(taxes, key) == Some(ItemTax::of(item))
+}
+
+/// Whether two keys are the same.
+fn is_same(own: &ItemKey, other: &ItemKey) -> bool
+    ensures { IsTrue result ↔ (own.now ≡ other.now) }
+{
+    own == other
 }
 
 impl TaxedTables {
@@ -89,12 +95,17 @@ impl StoredItems<'_> {
     /// The item that a row reads as, under its key; none where no tax of its key is kept.
     fn read(&self, taxes: &BTreeMap<ItemKey, ItemTax>, row: &Row) -> Option<(ItemKey, Item)>
         ensures keyed { IfSome result IsKeyed }
+        ensures row { IfSome result (λ e. row.now ≡ item_row e) }
         ensures entry { (e : KeyEntry × ItemEntry) → IsStoredItem (from_entries taxes.now.entries) (from_entries self.now.seconds.now.entries) e → row.now ≡ item_row e → result ≡ Some e }
     {
-        let key = read_item_key(row)?;
-        let tax = tax_at(taxes, &key)?;
-        let item = read_item(row, &key, tax, self.second_at(&key))?;
-        Some((ItemKey::of(&item)?, item))
+        let bare = read_entry::<BareItem>(row)?;
+        let tax = tax_at(taxes, &bare.key)?;
+        let item = bare.item(tax, self.second_at(&bare.key));
+        let key = ItemKey::of(&item)?;
+        if !is_same(&key, &bare.key) {
+            return None;
+        }
+        Some((key, item))
     }
 }
 
@@ -127,9 +138,6 @@ impl<'a> StoredTable<ItemKey, Item, TaxedTables> for StoredItems<'a> {
         let Some(entry) = self.read(&memory.taxes, row) else {
             return Ok(false);
         };
-        if !is_entry(row, &entry) {
-            return Ok(false);
-        }
         memory.put(&entry.0, &entry.1)
     }
 }

@@ -6,7 +6,7 @@ use Rattle.sqlite_sql.specs.Ops.{is_null}
 use Rattle.sqlite_schema.specs.Rules.{are_present, are_typed, is_of, passes}
 use Rattle.sqlite_schema.specs.declared.schema.Kind.TheVariants.{Integer}
 use Rattle.bsp_store_base.proofs.Entries.{day_number, Item, item_cmp, ItemKey, Tally, tally_cmp, TallyKey}
-use Rattle.bsp_store_base.proofs.Base.{agent_text, airline_text, alone, cast_int, cast_same, columns_of, Content, count, flag, form, IsInOrder, item_row, item_tax_row, item_tax_table, KeepsTable, Meta, meta_row, meta_rows, meta_table, number_text, our_schema, Part, period_text, placed, table_trees, tally_row, tally_tax_row, tally_tax_table, width_of}
+use Rattle.bsp_store_base.proofs.Base.{agent_text, airline_text, alone, cast_int, cast_same, columns_of, Content, count, flag, form, IsInOrder, item_part, item_row, item_tax_row, item_tax_table, KeepsTable, Meta, meta_row, meta_rows, meta_table, number_text, our_schema, Part, period_text, placed, table_trees, tally_part, tally_row, tally_tax_row, tally_tax_table, width_of}
 use Rattle.bsp_store_open.specs.Filled.{HasNoTax, IsUntaxed, with_number, AreInOldOrder, Begun, Fills, IsBegun, IsFilled, IsFilling}
 use Rattle.bsp_store_open.specs.Statements.{AreMade, At, Keyed, stored, untaxed_item, untaxed_tally, with_version, Goes, HasSeconds, HasTaxes, IsAdded, IsAt, is_tree}
 use Rattle.sqlite_schema.specs.declared.schema.Constraint.TheVariants.{Datatype, NotNull}
@@ -59,15 +59,15 @@ tally_seen e none =
     (cast_same tally_tax_table.columns (agent_text e.0.agent ∷ airline_text e.0.airline ∷ period_text e.0.period ∷ Int (pos 0) ∷ []) (refl, (refl, (refl, (cast_int (pos 0), tt)))))
     ∙ ap (λ tax. agent_text e.0.agent ∷ airline_text e.0.airline ∷ period_text e.0.period ∷ Int tax ∷ []) (sym none)
 
-pub items_taxed : (entries : List (ItemKey × Item)) → AllByRecursion IsUntaxed entries → (from into : List Row) → KeepsTable 19 (map item_row entries) from → AreMade item_tax_table untaxed_item from into
+pub items_taxed : (entries : List (ItemKey × Item)) → AllByRecursion IsUntaxed entries → (from into : List Row) → KeepsTable (width_of item_part.tree) (map item_row entries) from → AreMade item_tax_table untaxed_item from into
     → KeepsTable 5 (map item_tax_row entries) into
 items_taxed entries none from into keeps m =
-    made_keeps item_tax_table untaxed_item 19 see_item (λ r. refl) item_row item_tax_row entries (all_weaker IsUntaxed (λ e. see_item (item_row e) ≡ item_tax_row e) item_seen entries none) from into keeps m
+    made_keeps item_tax_table untaxed_item (width_of item_part.tree) see_item (λ r. refl) item_row item_tax_row entries (all_weaker IsUntaxed (λ e. see_item (item_row e) ≡ item_tax_row e) item_seen entries none) from into keeps m
 
-pub tallies_taxed : (entries : List (TallyKey × Tally)) → AllByRecursion HasNoTax entries → (from into : List Row) → KeepsTable 11 (map tally_row entries) from → AreMade tally_tax_table untaxed_tally from into
+pub tallies_taxed : (entries : List (TallyKey × Tally)) → AllByRecursion HasNoTax entries → (from into : List Row) → KeepsTable (width_of tally_part.tree) (map tally_row entries) from → AreMade tally_tax_table untaxed_tally from into
     → KeepsTable 4 (map tally_tax_row entries) into
 tallies_taxed entries none from into keeps m =
-    made_keeps tally_tax_table untaxed_tally 11 see_tally (λ r. refl) tally_row tally_tax_row entries (all_weaker HasNoTax (λ e. see_tally (tally_row e) ≡ tally_tax_row e) tally_seen entries none) from into keeps m
+    made_keeps tally_tax_table untaxed_tally (width_of tally_part.tree) see_tally (λ r. refl) tally_row tally_tax_row entries (all_weaker HasNoTax (λ e. see_tally (tally_row e) ≡ tally_tax_row e) tally_seen entries none) from into keeps m
 
 -- the columns at these places are 0
 abbrev AreZero : ℕ → ℕ → Row → Type 0
@@ -76,7 +76,7 @@ AreZero i j r = (column r i ≡ Int (pos 0)) × (column r j ≡ Int (pos 0))
 pub items_untaxed : (entries : List (ItemKey × Item)) (from into : List Row) → KeepsTable 5 (map item_tax_row entries) into → AreMade item_tax_table untaxed_item from into → AllByRecursion IsUntaxed entries
 items_untaxed entries from into keeps m =
     all_weaker (λ e. AreZero 3 4 (item_tax_row e)) IsUntaxed zero entries
-    (made_of_each item_tax_table untaxed_item 19 see_item (λ r. refl) item_tax_row entries (AreZero 3 4) (λ r. (cast_int (pos 0), cast_int (pos 0))) from into keeps m)
+    (made_of_each item_tax_table untaxed_item (width_of item_part.tree) see_item (λ r. refl) item_tax_row entries (AreZero 3 4) (λ r. (cast_int (pos 0), cast_int (pos 0))) from into keeps m)
   where
     zero : (e : ItemKey × Item) → AreZero 3 4 (item_tax_row e) → IsUntaxed e
     zero e is = let tax : Int e.1.tax ≡ Int (pos 0) = is.0 in let hundredths : Int (pos e.1.hundredths) ≡ Int (pos 0) = is.1 in (cc, cc)
@@ -84,7 +84,7 @@ items_untaxed entries from into keeps m =
 pub tallies_untaxed : (entries : List (TallyKey × Tally)) (from into : List Row) → KeepsTable 4 (map tally_tax_row entries) into → AreMade tally_tax_table untaxed_tally from into → AllByRecursion HasNoTax entries
 tallies_untaxed entries from into keeps m =
     all_weaker (λ e. AreZero 3 3 (tally_tax_row e)) HasNoTax zero entries
-    (made_of_each tally_tax_table untaxed_tally 11 see_tally (λ r. refl) tally_tax_row entries (AreZero 3 3) (λ r. (cast_int (pos 0), cast_int (pos 0))) from into keeps m)
+    (made_of_each tally_tax_table untaxed_tally (width_of tally_part.tree) see_tally (λ r. refl) tally_tax_row entries (AreZero 3 3) (λ r. (cast_int (pos 0), cast_int (pos 0))) from into keeps m)
   where
     zero : (e : TallyKey × Tally) → AreZero 3 3 (tally_tax_row e) → HasNoTax e
     zero e is = let tax : Int e.1.tax ≡ Int (pos 0) = is.0 in cc

@@ -8,6 +8,7 @@ ghost use Rattle.bsp_store_columns.specs.Values.{agent_text, airline_text, numbe
 use crate::cells::Cell;
 use crate::column::End;
 use crate::entry::{Entry, ReadEntry};
+use crate::tickets::document_of;
 use crate::{TicketKey, agent_digits, airline_digits, number_digits};
 use bsp_rows::{AgentCode, AirlineCode, DocNumber, ReportedDocument};
 
@@ -51,12 +52,6 @@ impl ReadEntry for (TicketKey, ReportedDocument) {
     fn of(values: Self::Values) -> Option<Self> {
         let (agent, (number, document)) = values;
         let (airline, (digits, End)) = document;
-        let related = DocNumber::read_unchecked(&digits).ok()?;
-        let document = ReportedDocument {
-            airline,
-            number: digits,
-            check_digit: related.check_digit(),
-        };
-        Some((TicketKey { agent, number }, document))
+        Some((TicketKey { agent, number }, document_of(airline, digits)?))
     }
 }

@@ -6,7 +6,7 @@ use Rattle.sqlite_value.specs.declared.value.ValueRef.{ValueRef}
 use Rattle.sqlite_value.specs.declared.value.ValueRef.TheVariants.{Null}
 use Rattle.sqlite.specs.Values.{bound, bound_value}
 use Rattle.sqlite_value.specs.Value.{owned}
-use Rattle.bsp_store_columns.specs.Cells.{cell, written}
+use Rattle.bsp_store_columns.specs.Cells.{cell, widest, written}
 use Rattle.bsp_store_columns.specs.declared.cells.Cell.{Cell}
 use Rattle.bsp_store_columns.proofs.cells.values_of.Goals as goal
 
@@ -37,4 +37,4 @@ returns-clause-values c =
 pub returns-clause-rest : goal.returns-clause-rest
 returns-clause-rest c =
     let i = c.loop-at in
-    i.invariant.rest (length c.args.cells.now) (omega (arith, c.loop-at-test.false, i.auto.at-end)) ∙ drop-replicate (length c.args.cells.now) 19 Null
+    i.invariant.rest (length c.args.cells.now) (omega (arith, c.loop-at-test.false, i.auto.at-end)) ∙ drop-replicate (length c.args.cells.now) widest Null

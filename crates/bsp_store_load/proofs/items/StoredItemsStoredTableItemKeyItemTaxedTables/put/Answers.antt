@@ -1,10 +1,9 @@
-use Rattle.bsp_store_base.proofs.Std.{◌∙◌, ◌≡◌, ap, from_entries, IfSome, refl, subst, sym}
+use Rattle.bsp_store_base.proofs.Std.{◌∙◌, ◌≡◌, ap, from_entries, IfSome, subst, sym}
 use Rattle.bsp_store_base.proofs.Entries.{if_ok, Item, item_cmp, ItemKey}
 use Rattle.bsp_memory_rows.specs.Tables.{rows_of}
 use Rattle.bsp_store_base.specs.Columns.{item_row}
 use Rattle.bsp_store_load.specs.Beside.{IsAwaited, IsKeyed, Taxed, kept_tax}
-use Rattle.bsp_store_load.proofs.PlainRows.{plain_item}
-use Rattle.bsp_store_load.proofs.RowReads.{not_none, own_is, not_refused}
+use Rattle.bsp_store_load.proofs.RowReads.{not_none, own_is}
 use Rattle.bsp_store_load.proofs.TaxedLemmas.{awaited, if_all, is_stored, lacks_item, now_put, put_taxed}
 use Rattle.bsp_store_load.specs.declared.items.TaxedTables.{TaxedTables}
 use Rattle.bsp_store_load.proofs.items.StoredItemsStoredTableItemKeyItemTaxedTables.put.Goals as goal
@@ -12,10 +11,6 @@ use Rattle.bsp_store_load.proofs.items.StoredItemsStoredTableItemKeyItemTaxedTab
 pub returns-in_default-clause-entry : goal.returns-in_default-clause-entry
 returns-in_default-clause-entry c = λ e fits lacks is.
     absurd (not_none item_row c.args.row.now c.read.result e (c.read.ensures.entry e (is_stored _ _ e _ fits lacks) is) c.in_default.is)
-
-pub returns-then-not-is_entry-clause-entry : goal.returns-then-not-is_entry-clause-entry
-returns-then-not-is_entry-clause-entry c = λ e fits lacks is.
-    absurd (not_refused item_row c.args.row.now c.read.result e (c.read.ensures.entry e (is_stored _ _ e _ fits lacks) is) c.in-Some.entry c.in-Some.is is (item_row c.in-Some.entry) refl (plain_item e) _ c.if-not-is_entry.true c.is_entry.ensures.whole)
 
 pub put-requires : goal.put-requires
 put-requires c = subst (λ o. IfSome o IsKeyed) c.in-Some.is c.read.ensures.keyed
@@ -32,7 +27,7 @@ returns-clause-row c =
     let left = from_entries {R = item_cmp} c.args.memory.now.taxes.entries in
     let rows = rows_of c.args.memory.now.tables in
     let e : ItemKey × Item = c.in-Some.entry in
-    let row_is = c.is_entry.ensures.same c.if-not-is_entry.false in
+    let row_is : c.args.row.now ≡ item_row e = subst (λ o. IfSome o (λ f. c.args.row.now ≡ item_row f)) c.in-Some.is c.read.ensures.row in
     let own = subst (λ o. IfSome o IsKeyed) c.in-Some.is c.read.ensures.keyed in
     if_all _ _ _ _ c.put.result c.put.ensures.lacks c.put.ensures.rows c.put.ensures.taxes (λ done lacks put out t.
     let it = lacks.0 t in

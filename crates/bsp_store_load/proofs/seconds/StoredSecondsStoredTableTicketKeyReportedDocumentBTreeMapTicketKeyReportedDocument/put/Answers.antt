@@ -1,6 +1,6 @@
 use Rattle.bsp_store_base.proofs.Std.{◌∙◌, ◌≡◌, ap, from_entries, get, insert, Some}
 use Rattle.bsp_store_base.proofs.Base.{second_row, ticket_cmp}
-use Rattle.bsp_store_base.proofs.TaxBack.{document_checked}
+use Rattle.bsp_store_base.proofs.Back.{document_checked}
 use Rattle.bsp_store_columns.specs.declared.tickets.TicketKey.{TicketKey}
 use Rattle.bsp_rows.specs.ReportedDocument.{ReportedDocument}
 use Rattle.bsp_store_load.proofs.EntryLemmas.{none_there, put_told}

@@ -1,7 +1,8 @@
-use Rattle.bsp_store_base.proofs.Std.{◌∙◌, ◌∷◌, ◌≡◌, ap, drop, List, None, Option, option_and_then, option_map, Some, suc, sym, take, ℕ}
+use Rattle.std.proofs.Common.{◌∙◌, ◌∷◌, ◌≡◌, ap, drop, List, None, Option, Some, suc, sym, take, ℕ}
+use Rattle.std.specs.Prelude.{option_and_then, option_map}
 use Rattle.bsp_rows.specs.Tax.{Tax}
-use Rattle.bsp_store_base.specs.ItemReading.{tax_in, taxes_in}
-use Rattle.bsp_store_base.proofs.columns.taxes_of.Goals as goal
+use Rattle.bsp_store_columns.specs.TaxPlaces.{tax_in, taxes_in}
+use Rattle.bsp_store_columns.proofs.tax_places.taxes_of.Goals as goal
 
 abbrev with_first : ℕ → List ℕ → Option Tax → Option (List (Option Tax))
 with_first n text tax = option_map (λ taxes. tax ∷ taxes) (taxes_in n (drop 13 text))
