@@ -61,6 +61,10 @@ module _ {K X : Type 0} {R : K → K → Ordering} (o : IsTotalOrder R) (exact :
       ∙ ap (λ u. cond (eq_by_cmp R q k) u (get m q)) (sym e)
       ∙ at_key m k q (eq_by_cmp R q k) refl)
 
+  -- what was there is written again
+  pub written_back : (m : FinMap R X) (k : K) (v w : X) → get m k ≡ Some w → insert (insert m k v) k w ≡ m
+  written_back m k v w e = sym (ap (λ b. if b then insert (insert m k v) k w else insert m k v) (held m k v)) ∙ put_back m k v (Some w) e
+
   -- to put back what is there changes nothing
   pub put_back_same : (m : FinMap R X) (k : K) (old : Option X) → get m k ≡ old → value_restored k old m ≡ m
   put_back_same m k None e = same_map o exact _ _ (λ q.

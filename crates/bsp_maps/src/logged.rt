@@ -1,7 +1,8 @@
 //! A map with a log of writes, which can be rolled back.
 
-ghost use Rattle.std.specs.Prelude.{◌≡◌, IfOk, OnOk};
+ghost use Rattle.std.specs.Prelude.{◌≡◌, false, IfOk, IsTrue, None, OnOk};
 ghost use Rattle.std.specs.FinMap.{IsAntisymmetric, empty, insert, get};
+ghost use Rattle.bsp_maps.specs.Counts.{with_one};
 ghost use Rattle.bsp_maps.specs.Undo.{content, before, restored};
 
 use std::alloc::{AllocError, Global};
@@ -130,5 +131,34 @@ impl<K: Ord + Copy + Drop, V: Copy + Drop> Logged<K, V> {
         while let Some(old) = self.undo.pop() {
             self.restore(old);
         }
+    }
+}
+
+impl<K: Ord + Copy + Drop> Logged<K, u64> {
+    /// Adds one to the number at a key, and answers whether there is a number. It looks the key up once.
+    ///
+    /// # Errors
+    ///
+    /// Where an allocation was refused, and where the number is the greatest of its type.
+    pub(crate) fn count_up(&mut self, key: K) -> Result<bool, AllocError>
+        requires { IsAntisymmetric K.cmp }
+        ensures up { IfOk result (λ up. IsTrue up → content K.cmp self.new ≡ with_one key (content K.cmp self.old)) }
+        ensures none { IfOk result (λ up. up ≡ false → (content K.cmp self.new ≡ content K.cmp self.old) × (get (content K.cmp self.old) key ≡ None)) }
+        ensures before { before K.cmp self.new ≡ before K.cmp self.old }
+    {
+        self.undo.reserve(1)?;
+        let Some(count) = self.map.get_mut(&key) else {
+            return Ok(false);
+        };
+        let old = *count;
+        if old == u64::MAX {
+            return Err(AllocError);
+        }
+        *count = old + 1;
+        self.undo.push_reserved(Old {
+            key,
+            value: Some(old),
+        });
+        Ok(true)
     }
 }

@@ -1,6 +1,6 @@
 //! How many rows have each place.
 
-ghost use Rattle.std.specs.Prelude.{◌≡◌, OnOk, Some};
+ghost use Rattle.std.specs.Prelude.{◌↔◌, ◌≡◌, false, IfOk, IsTrue, OnOk, Some};
 ghost use Rattle.std.specs.FinMap.{IsAntisymmetric, empty};
 ghost use Rattle.bsp_maps.specs.Counts.{HasCounted, IsRecounted, count_at, counted, counted_before, with_one, without_one};
 
@@ -72,11 +72,32 @@ impl<P: Ord + Copy + Drop> Counts<P> {
         ensures ok { OnOk result (counted P.cmp self.new ≡ with_one to (counted P.cmp self.old)) }
         ensures before { counted_before P.cmp self.new ≡ counted_before P.cmp self.old }
     {
-        let count = self.at(to);
-        if count == u64::MAX {
-            return Err(AllocError);
+        if self.counts.count_up(to)? {
+            return Ok(());
         }
-        self.counts.put(to, count + 1)
+        self.counts.put(to, 1)
+    }
+
+    /// Counts a row at a place, if none is counted there. It answers whether the row was counted, and looks the place up
+    /// once where it was.
+    ///
+    /// # Errors
+    ///
+    /// Where an allocation was refused. What the last commit kept is remembered all the same.
+    pub fn count_first(&mut self, place: P) -> Result<bool, AllocError>
+        requires { IsAntisymmetric P.cmp }
+        ensures none { IfOk result (λ first. IsTrue first ↔ (count_at (counted P.cmp self.old) place ≡ 0)) }
+        ensures first { IfOk result (λ first. IsTrue first → counted P.cmp self.new ≡ with_one place (counted P.cmp self.old)) }
+        ensures kept { IfOk result (λ first. first ≡ false → counted P.cmp self.new ≡ counted P.cmp self.old) }
+        ensures before { counted_before P.cmp self.new ≡ counted_before P.cmp self.old }
+    {
+        match self.counts.replace(place, 1)? {
+            None | Some(0) => Ok(true),
+            Some(count) => {
+                self.counts.put(place, count)?;
+                Ok(false)
+            }
+        }
     }
 
     /// Counts a row at a place, and no more at the one where it was, if it was at one. Where these are the same

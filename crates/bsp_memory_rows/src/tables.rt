@@ -1,6 +1,7 @@
 //! The tables of a book in memory, which remember what they changed.
 
-ghost use Rattle.std.specs.Prelude.{◌≡◌, IfOk, OnOk, if◌then◌else◌, Some, None};
+ghost use Rattle.std.specs.Prelude.{◌↔◌, ◌≡◌, false, IfOk, IsTrue, OnOk, if◌then◌else◌, Some, None};
+ghost use Rattle.std.specs.FinMap.{get};
 ghost use Rattle.bsp_rows.specs.History.Request.{Close, Publish, SetDay};
 ghost use Rattle.bsp_rows.specs.Billing.{billed_in};
 ghost use Rattle.bsp_rows.specs.Memos.{is_memo};
@@ -239,14 +240,14 @@ impl Tables {
         Ok(())
     }
 
-    /// Writes an item at a key.
-    fn put_item(&mut self, key: &ItemKey, item: &Item) -> Result<(), NoRoom>
+    /// Writes an item at a key, where `old` is.
+    fn put_item(&mut self, key: &ItemKey, old: Option<Item>, item: &Item) -> Result<(), NoRoom>
+        requires { old ≡ get (rows_of self.old).items key.now }
         ensures ok { OnOk result (rows_of self.new ≡ with_item_at key.now item.now (rows_of self.old)) }
         ensures committed { committed_rows self.new ≡ committed_rows self.old }
         ensures derived { OnOk result (IsDerived self.old → IsDerived self.new) }
         ensures was_derived { WasDerived self.old → WasDerived self.new }
     {
-        let old = self.items.get(*key);
         recount_item(&mut self.tallies, old, item)?;
         self.items.put(key, &old, item)?;
         Ok(())
@@ -264,7 +265,30 @@ impl Tables {
         ensures derived { OnOk result (IsDerived self.old → IsDerived self.new) }
         ensures was_derived { WasDerived self.old → WasDerived self.new }
     {
-        self.put_item(&key_of(item), item)
+        let key = key_of(item);
+        let old = self.items.get(key);
+        self.put_item(&key, old, item)
+    }
+
+    /// Adds an item at its key, unless there is one. It answers whether the item was added.
+    ///
+    /// # Errors
+    ///
+    /// `NoRoom` as in `add_item`.
+    pub fn add_new_item(&mut self, key: &ItemKey, item: &Item) -> Result<bool, NoRoom>
+        requires { HasNumberKey item.now × (key_of item.now ≡ key.now) }
+        ensures none { IfOk result (λ added. IsTrue added ↔ (get (rows_of self.old).items key.now ≡ None)) }
+        ensures kept { IfOk result (λ added. added ≡ false → self.new ≡ self.old) }
+        ensures ok { IfOk result (λ added. IsTrue added → rows_of self.new ≡ with_item item.now (rows_of self.old)) }
+        ensures committed { committed_rows self.new ≡ committed_rows self.old }
+        ensures derived { OnOk result (IsDerived self.old → IsDerived self.new) }
+        ensures was_derived { WasDerived self.old → WasDerived self.new }
+    {
+        if self.items.has(key) {
+            return Ok(false);
+        }
+        self.put_item(key, None, item)?;
+        Ok(true)
     }
 
     /// The item of a key, if there is one, lives no more.
@@ -282,7 +306,7 @@ impl Tables {
             None => Ok(()),
             Some(item) => {
                 let ended = ended(&item);
-                self.put_item(&key, &ended)
+                self.put_item(&key, Some(item), &ended)
             }
         }
     }

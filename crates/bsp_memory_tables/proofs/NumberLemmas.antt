@@ -6,8 +6,11 @@ use Rattle.std.specs.Cmp.{tied_itself}
 use Rattle.std.specs.FinMap.{FinMap, empty, get, get-empty, insert, entries, get-insert, get-entries}
 use Rattle.std.specs.FinMap.Entries.{find}
 use Rattle.std.specs.Str.{bytes_eq}
+use Rattle.std.specs.Result.{result_ok}
+use Rattle.std.proofs.lemmas.Bool.{eqb-true}
 use Rattle.std.proofs.lemmas.Slice.Eq.{bytes_eq-Decides}
 use Rattle.std.proofs.lemmas.List.Folds.{list_any-append}
+use Rattle.bsp_rows.specs.Codes.{code_reading}
 use Rattle.bsp_rows.specs.ReportedDocument.{ReportedDocument}
 use Rattle.bsp_rows.specs.RulesRows.{has_number, names_number}
 use Rattle.bsp_rows.specs.Transaction.{Transaction}
@@ -20,7 +23,7 @@ use Rattle.bsp_rows.specs.Rows.{item_cmp}
 use Rattle.bsp_rows.proofs.KeyOrders.{item_exact, item_total}
 use Rattle.bsp_rows.proofs.MapLemmas.{get_written, same_Some, same_key}
 use Rattle.bsp_memory_tables.specs.declared.keys.NumberKey.{NumberKey}
-use Rattle.bsp_memory_tables.specs.Numbers.{IsIndexed, bears, is_bearing, is_of_number, is_with_number, place_numbers, keys_at, keys_at_each, number_cmp, number_key, with_number, with_numbers}
+use Rattle.bsp_memory_tables.specs.Numbers.{IsIndexed, bears, is_bearing, is_number, is_of_number, is_own, is_with_number, own_keys, place_numbers, keys_at, keys_at_each, number_cmp, number_key, with_number, with_numbers}
 use Rattle.bsp_memory_tables.proofs.NumberOrder.{number_exact, number_total}
 
 or_left : (a b : Bool) → a ≡ true → (a || b) ≡ true
@@ -43,19 +46,28 @@ module _ (index : FinMap number_cmp ItemKey) where
   stays k key n m false e h = h
 
   kept : (k key : ItemKey) (n m : List ℕ) → get index (number_key k n) ≡ Some k → get (with_number key m index) (number_key k n) ≡ Some k
-  kept k key n m h = get-insert number_total index (number_key key m) key (number_key k n) ∙ stays k key n m (eq_by_cmp number_cmp (number_key k n) (number_key key m)) refl h
+  kept k key n m h = at (is_own key m) where
+    at : (own : Bool) → get (cond own index (insert index (number_key key m) key)) (number_key k n) ≡ Some k
+    at true = h
+    at false = get-insert number_total index (number_key key m) key (number_key k n) ∙ stays k key n m (eq_by_cmp number_cmp (number_key k n) (number_key key m)) refl h
+
+  -- a number that is not its own is added
+  added : (key : ItemKey) (m : List ℕ) → is_own key m ≡ false → get (with_number key m index) (number_key key m) ≡ Some key
+  added key m other = ap (λ own. get (cond own index (insert index (number_key key m) key)) (number_key key m)) other ∙ get_written number_total number_exact index (number_key key m) key
 
 kept_each : (k key : ItemKey) (n : List ℕ) (ms : List (List ℕ)) (index : FinMap number_cmp ItemKey) → get index (number_key k n) ≡ Some k → get (with_numbers key ms index) (number_key k n) ≡ Some k
 kept_each k key n [] index h = h
 kept_each k key n (m ∷ ms) index h = kept_each k key n ms (with_number key m index) (kept index k key n m h)
 
 -- each number that was added is there
-there : (key : ItemKey) (n : List ℕ) (ms : List (List ℕ)) (index : FinMap number_cmp ItemKey) → is_among n ms ≡ true → get (with_numbers key ms index) (number_key key n) ≡ Some key
-there key n [] index h = absurd (cc)
-there key n (m ∷ ms) index h = at (bytes_eq n m) refl h (there key n ms (with_number key m index)) where
+there : (key : ItemKey) (n : List ℕ) → is_own key n ≡ false → (ms : List (List ℕ)) (index : FinMap number_cmp ItemKey) → is_among n ms ≡ true → get (with_numbers key ms index) (number_key key n) ≡ Some key
+there key n other [] index h = absurd (cc)
+there key n other (m ∷ ms) index h = at (bytes_eq n m) refl h (there key n other ms (with_number key m index)) where
   at : (b : Bool) → bytes_eq n m ≡ b → (b || is_among n ms) ≡ true → (is_among n ms ≡ true → get (with_numbers key ms (with_number key m index)) (number_key key n) ≡ Some key) → get (with_numbers key ms (with_number key m index)) (number_key key n) ≡ Some key
-  at true e h rest = kept_each key key n ms (with_number key m index)
-      (ap (λ (x : List ℕ). get (with_number key m index) (number_key key x)) ((bytes_eq-Decides n m).0 e) ∙ get_written number_total number_exact index (number_key key m) key)
+  at true e h rest =
+      let same = (bytes_eq-Decides n m).0 e in
+      kept_each key key n ms (with_number key m index)
+      (ap (λ (x : List ℕ). get (with_number key m index) (number_key key x)) same ∙ added index key m (ap (is_own key) (sym same) ∙ other))
   at false e h rest = rest h
 
 -- ---- an item is written
@@ -66,14 +78,14 @@ module _ (items : FinMap item_cmp Item) where
   written key k new i false e h = inr h
 
   pub indexed : (index : FinMap number_cmp ItemKey) (key : ItemKey) (new : Item) → IsIndexed items index → IsIndexed (insert items key new) (with_numbers key (numbers_of new.transaction) index)
-  indexed index key new is k i n at h = elim (written key k new i (eq_by_cmp item_cmp k key) refl (sym (get-insert item_total items key new k) ∙ at)) [
+  indexed index key new is k i n at h other = elim (written key k new i (eq_by_cmp item_cmp k key) refl (sym (get-insert item_total items key new k) ∙ at)) [
     | inl p ↦ subst (λ (j : ItemKey). get (with_numbers key (numbers_of new.transaction) index) (number_key j n) ≡ Some j) (sym p.0)
-        (there key n (numbers_of new.transaction) index (ap (λ (x : Item). is_among n (numbers_of x.transaction)) p.1 ∙ h))
-    | inr old ↦ kept_each k key n (numbers_of new.transaction) index (is k i n old h)
+        (there key n (ap (λ (j : ItemKey). is_own j n) (sym p.0) ∙ other) (numbers_of new.transaction) index (ap (λ (x : Item). is_among n (numbers_of x.transaction)) p.1 ∙ h))
+    | inr old ↦ kept_each k key n (numbers_of new.transaction) index (is k i n old h other)
   ]
 
 pub nothing_indexed : (m : FinMap item_cmp Item) (index : FinMap number_cmp ItemKey) → m ≡ empty → IsIndexed m index
-nothing_indexed m index e k i number at has = let f : None ≡ Some i = sym (get-empty item_cmp k) ∙ sym (ap (λ (x : FinMap item_cmp Item). get x k) e) ∙ at in absurd (cc)
+nothing_indexed m index e k i number at has other = let f : None ≡ Some i = sym (get-empty item_cmp k) ∙ sym (ap (λ (x : FinMap item_cmp Item). get x k) e) ∙ at in absurd (cc)
 
 -- ---- what is found
 
@@ -104,11 +116,26 @@ and_both : (a b : Bool) → a ≡ true → b ≡ true → (a && b) ≡ true
 and_both true b h k = k
 and_both false b h k = h
 
-module _ (index : FinMap number_cmp ItemKey) (agent : ℕ) (k : ItemKey) (own : (k.agent == agent) ≡ true) where
-  at_number : (n m : List ℕ) → get index (number_key k n) ≡ Some k → bytes_eq n m ≡ true → list_any (eq_by_cmp item_cmp k) (keys_at index agent m) ≡ true
-  at_number n m is same = value_found (is_of_number agent m) (number_key k n) k (and_both (k.agent == agent) (bytes_eq n m) own same) (entries index) (sym (get-entries index (number_key k n)) ∙ is)
+-- an item is one of those that may have its number
+one_of_two : (agent number : ℕ) (canx : Bool) → list_any (eq_by_cmp item_cmp (record { agent = agent; number = number; is_canx = canx })) (own_keys agent (Some number)) ≡ true
+one_of_two agent number false = or_left _ _ (ap is_eq (tied_itself item_total (record { agent = agent; number = number; is_canx = false })))
+one_of_two agent number true = or_right _ _ (or_left _ _ (ap is_eq (tied_itself item_total (record { agent = agent; number = number; is_canx = true }))))
 
-  at_each : (n : List ℕ) → get index (number_key k n) ≡ Some k → (ms : List (List ℕ)) → is_among n ms ≡ true → list_any (eq_by_cmp item_cmp k) (keys_at_each index agent ms) ≡ true
+own_found : (k : ItemKey) (agent : ℕ) (read : Option ℕ) → (k.agent == agent) ≡ true → is_number k.number read ≡ true → list_any (eq_by_cmp item_cmp k) (own_keys agent read) ≡ true
+own_found k agent None own is = absurd (cc is)
+own_found k agent (Some number) own is =
+    let a : agent ≡ k.agent = sym (eqb-true k.agent agent own) in
+    let n : number ≡ k.number = eqb-true number k.number is in
+    (λ i. list_any (eq_by_cmp item_cmp k) (own_keys (a i) (Some (n i)))) ∙ one_of_two k.agent k.number k.is_canx
+
+module _ (index : FinMap number_cmp ItemKey) (agent : ℕ) (k : ItemKey) (own : (k.agent == agent) ≡ true) where
+  at_number : (n m : List ℕ) → (is_own k n ≡ false → get index (number_key k n) ≡ Some k) → bytes_eq n m ≡ true → list_any (eq_by_cmp item_cmp k) (keys_at index agent m) ≡ true
+  at_number n m is same = list_any-append (eq_by_cmp item_cmp k) (own_keys agent (result_ok (code_reading 10 m))) (values_in (is_of_number agent m) (entries index)) ∙ at (is_own k n) refl where
+    at : (b : Bool) → is_own k n ≡ b → (list_any (eq_by_cmp item_cmp k) (own_keys agent (result_ok (code_reading 10 m))) || list_any (eq_by_cmp item_cmp k) (values_in (is_of_number agent m) (entries index))) ≡ true
+    at true e = or_left _ _ (own_found k agent (result_ok (code_reading 10 m)) own (ap (is_own k) (sym ((bytes_eq-Decides n m).0 same)) ∙ e))
+    at false e = or_right _ _ (value_found (is_of_number agent m) (number_key k n) k (and_both (k.agent == agent) (bytes_eq n m) own same) (entries index) (sym (get-entries index (number_key k n)) ∙ is e))
+
+  at_each : (n : List ℕ) → (is_own k n ≡ false → get index (number_key k n) ≡ Some k) → (ms : List (List ℕ)) → is_among n ms ≡ true → list_any (eq_by_cmp item_cmp k) (keys_at_each index agent ms) ≡ true
   at_each n is [] h = absurd (cc)
   at_each n is (m ∷ ms) h = list_any-append (eq_by_cmp item_cmp k) (keys_at index agent m) (keys_at_each index agent ms) ∙ at (bytes_eq n m) refl h (at_each n is ms) where
     at : (b : Bool) → bytes_eq n m ≡ b → (b || is_among n ms) ≡ true → (is_among n ms ≡ true → list_any (eq_by_cmp item_cmp k) (keys_at_each index agent ms) ≡ true) → (list_any (eq_by_cmp item_cmp k) (keys_at index agent m) || list_any (eq_by_cmp item_cmp k) (keys_at_each index agent ms)) ≡ true

@@ -1,6 +1,6 @@
 //! The table of items.
 
-ghost use Rattle.std.specs.Prelude.{◌≡◌, ◌==◌, ◌&&◌, IfOk, OnOk};
+ghost use Rattle.std.specs.Prelude.{◌≡◌, ◌==◌, ◌&&◌, IfOk, is_some, OnOk};
 ghost use Rattle.std.specs.FinMap.{empty, entries, get, insert, values};
 ghost use Rattle.std.specs.List.{filter, list_any};
 ghost use Rattle.bsp_maps.specs.Windows.{values_in};
@@ -11,11 +11,11 @@ ghost use Rattle.bsp_memory_tables.specs.Numbers.{bears};
 ghost use Rattle.bsp_memory_tables.specs.Used.{used_count};
 ghost use Rattle.bsp_memory_tables.specs.ItemTables.{AreItemsKept, WereItemsKept, item_rows, item_rows_before};
 
-use crate::keys::{AtNumber, ItemsOf, ItemsWithin, least_item};
-use crate::numbers::{Bearing, Numbers, WithNumber, add_numbers, keys_bearing};
+use crate::keys::{ItemsOf, ItemsWithin, least_item};
+use crate::numbers::{Bearing, Numbers, WithNumber, add_numbers, keys_bearing, keys_with_number};
 use crate::places::{AirlinePeriod, item_place};
 use crate::used::{Block, count_number, used_count};
-use bsp_maps::{Counts, Every, Index, Logged, Old, Rule, Test};
+use bsp_maps::{Counts, Index, Logged, Old, Rule, Test};
 use bsp_rows::{AgentCode, AirlineCode, Item, ItemKey, PeriodCode, Range, Transaction};
 use std::alloc::{AllocError, Global};
 use std::collections::BTreeMap;
@@ -108,6 +108,13 @@ impl ItemTable {
         self.rows.get(key)
     }
 
+    /// Whether there is an item of the key.
+    pub fn has(&self, key: &ItemKey) -> bool
+        ensures { result ≡ is_some (get (item_rows self.now) key.now) }
+    {
+        self.rows.map().contains_key(key)
+    }
+
     /// Writes an item at a key, where `old` is.
     ///
     /// # Errors
@@ -189,10 +196,8 @@ impl ItemTable {
     ) -> Result<Vec<Item>, AllocError>
         ensures { IfOk result (λ found. AreItemsKept self.now → found.items ≡ filter (bears number.now) (values_in (λ k. k.agent == agent) (entries (item_rows self.now)))) }
     {
+        let keys = keys_with_number(alloc, &self.by_number, agent, number)?;
         let number = *number;
-        let keys = self
-            .by_number
-            .chosen(alloc, &AtNumber { agent, number }, &Every)?;
         self.rows
             .picked(alloc, &keys, &WithNumber { agent, number })
     }

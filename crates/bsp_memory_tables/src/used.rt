@@ -46,17 +46,17 @@ pub(crate) fn count_number(counts: &mut Counts<Block>, key: &ItemKey) -> Result<
     ensures before { counted_before block_cmp counts.new ≡ counted_before block_cmp counts.old }
 {
     let agent = key.agent;
-    let mut place = number(key.number);
-    let level = 0;
-    if counts.at(Block {
+    let own = number(key.number);
+    let is_first = counts.count_first(Block {
         agent,
-        level,
-        place,
-    }) > 0
-    {
+        level: 0,
+        place: own,
+    })?;
+    if !is_first {
         return Ok(());
     }
-    for level in 0..LEVELS {
+    let mut place = own / 100;
+    for level in 1..LEVELS {
         counts.relocate(
             None,
             Block {

@@ -65,11 +65,10 @@ impl TaxedTables {
         if !has_tax(&self.taxes, key, item) {
             return Ok(false);
         }
-        if self.tables.item_table().get(*key).is_some() {
+        formed_item(*key, *item);
+        if !self.tables.add_new_item(key, item)? {
             return Ok(false);
         }
-        formed_item(*key, *item);
-        self.tables.add_item(item)?;
         self.tables.commit();
         let _ = self.taxes.remove(key);
         Ok(true)

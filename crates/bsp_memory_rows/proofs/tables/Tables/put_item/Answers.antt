@@ -26,7 +26,7 @@ returns-clause-derived c = λ h.
       of_tallies = c.in_ok-recount_item.ensures.kept h.of_tallies;
       totals = totals_same (insert items key item) (item_rows c.put.new.self) memos memos next next c.in_ok-put.ensures.rows refl refl
           (item_totals items memos tallies next key item
-          (λ others ms before. c.in_ok-recount_item.ensures.ok others ms (subst (λ (o : Option Item). AreAddedUp (option_to_list o ++ others) ms tallies) (sym c.get-old.ensures) before)) h.totals);
+          (λ others ms before. c.in_ok-recount_item.ensures.ok others ms (subst (λ (o : Option Item). AreAddedUp (option_to_list o ++ others) ms tallies) (sym c.requires) before)) h.totals);
     }
 
 with_items : Rows → FinMap item_cmp Item → Rows
